@@ -202,7 +202,7 @@ def malformed() -> Iterator[bytes]:
     # The hex digits
     for bad in [key.upper(), key[:-1], key + b"0", b"g" + key[1:], key[:-1] + b"G", b"0x" + key]:
         yield good.replace(key, bad)
-    for bad in [iv.upper(), iv[:-1], iv + b"0", iv[:-1] + b"g", iv[:9] + b"/" + iv[10:], b":" + iv[1:]]:
+    for bad in [iv.upper(), iv[:-1], iv + b"0", iv[:-1] + b"g", b"/" + iv[1:], b":" + iv[1:]]:
         yield good.replace(iv, bad)
     yield b"wide " + key[:-1] + b" " + iv[:-1] + b" 4294967296 1"
     # The fields
