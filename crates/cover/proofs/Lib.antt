@@ -1,0 +1,3 @@
+pub mod Following
+pub mod Bytes
+pub mod Going
