@@ -5,12 +5,12 @@ use mathlib.Core.Logic.{_≢_}
 use mathlib.Core.Path.{_≡_, refl, sym, ap, _∙_, subst}
 use native.Mathlib.Omega.{arith}
 use borrow.Author.Count.{below-more}
-use lib.Bits.{bitXor}
-use lib.ListN.{length, getD, set, length-set}
+use lib.Bits.{bitXor, xor-zero-l}
+use lib.ListN.{length, getD, set, replicate, length-set}
 use lib.Seq.{getD-set-same, getD-set-other}
-use native.Mathlib.Nat.{le-of-suc-le-suc}
+use native.Mathlib.Nat.{le-of-suc-le-suc, zero-add}
 use Rattle.std.proofs.shelf.Lists.{ext-getD}
-use Rattle.cover.specs.Lists.{covered, Changed}
+use Rattle.cover.specs.Lists.{covered, streamed, Changed}
 
 pub unchanged : (k : ℕ → ℕ) (a : ℕ) (bs : List ℕ) → Changed k a a bs bs
 unchanged k a bs = record { long = refl; before = λ i h. refl; within = λ i h h′. absurd (omega arith); after = λ i h. refl }
@@ -54,3 +54,17 @@ pub all-covered : (k : ℕ → ℕ) (p : ℕ) (old new : List ℕ) → Changed (
 all-covered k p old new ch =
     ext-getD 0 new (covered k p old) (ch .long ∙ sym (length-covered k p old))
     (λ i h. let lt : i < length old = omega (arith, ch .long) in ch .within i (omega arith) lt ∙ sym (covered-at k p old i lt))
+
+-- zeros under the keystream are the keystream
+pub covered-zeros : (k : ℕ → ℕ) (p n : ℕ) → covered k p (replicate n 0) ≡ streamed k p n
+covered-zeros k p zero = refl
+covered-zeros k p (suc n) = ap (λ b. b ∷ covered k (suc p) (replicate n 0)) (xor-zero-l (k p)) ∙ ap (λ t. k p ∷ t) (covered-zeros k (suc p) n)
+
+pub none-streamed : (k : ℕ → ℕ) (p : ℕ) (bs : List ℕ) → length bs ≡ 0 → bs ≡ streamed k p (length bs)
+none-streamed k p [] e = refl
+none-streamed k p (b ∷ bs) e = absurd (omega arith)
+
+-- what is covered over a cleared buffer
+pub streamed-over : (k k′ : ℕ → ℕ) (p n : ℕ) (old new : List ℕ) → k ≡ k′ → old ≡ replicate n 0 → new ≡ covered k (0 + p) old → new ≡ streamed k′ p n
+streamed-over k k′ p n old new same zeros e =
+    e ∙ ap (λ t. covered k t old) (zero-add p) ∙ ap (covered k p) zeros ∙ covered-zeros k p n ∙ ap (λ t. streamed t p n) same

@@ -1,5 +1,5 @@
 -- Bytes under a keystream.
-use Prim.Native.Nat.{ℕ, suc, _+_, _<_, _≤_}
+use Prim.Native.Nat.{ℕ, zero, suc, _+_, _<_, _≤_}
 use mathlib.Core.List.{List, [], _∷_}
 use mathlib.Core.Path.{_≡_}
 use lib.Bits.{bitXor}
@@ -9,6 +9,11 @@ use lib.ListN.{length, getD}
 abbrev pub covered : (ℕ → ℕ) → ℕ → List ℕ → List ℕ
 covered k p [] = []
 covered k p (b ∷ bs) = bitXor b (k p) ∷ covered k (suc p) bs
+
+-- n bytes of the keystream from position p on
+abbrev pub streamed : (ℕ → ℕ) → ℕ → ℕ → List ℕ
+streamed k p zero = []
+streamed k p (suc n) = k p ∷ streamed k (suc p) n
 
 -- the bytes from a below e are changed to XOR k of the index; the others are as they were
 pub record Changed (k : ℕ → ℕ) (a e : ℕ) (old new : List ℕ) : Type 0 where

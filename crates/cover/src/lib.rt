@@ -10,6 +10,7 @@ use stage::Progress;
 use stage::Stage;
 
 mod pieces;
+pub mod range;
 mod stage;
 mod steps;
 
