@@ -25,6 +25,10 @@ returns g c =
     let low : c .args .from + length (c .args .out .now) ≤ 2 ^ 32 = omega arith in
     let ready = c .in-Continue-pass .ensures tt ws 0 (set .2) (omega arith) in
     let out = c .in-Continue-cover .ensures tt .1 ws (0 + c .args .from) ready in
-    let same = ap (λ s. byteAt (g .F·Filter) (g .M·Mother .given s key iv)) (c .new-cover .ensures .mother) in
-    (set .0, set .1, low, streamed-over (byteAt (g .F·Filter) ws) _ (c .args .from) (length (c .args .out .now)) (c .clear .last .bytes)
-    (c .cover .last .bytes) same (c .clear .ensures) (out .2))
+    let same = ap (λ s. byteAt (g .F·Filter) (g .M·Mother .given s key iv)) (c .new-cover .ensures .mother) in (
+      set .0,
+      set .1,
+      low,
+      streamed-over (byteAt (g .F·Filter) ws) _ (c .args .from) (length (c .args .out .now)) (c .clear .last .bytes)
+          (c .cover .last .bytes) same (c .clear .ensures) (out .2),
+    )

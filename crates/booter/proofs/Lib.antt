@@ -1,0 +1,4 @@
+pub mod Turns
+pub mod Rows
+pub mod Loads
+pub mod Moves

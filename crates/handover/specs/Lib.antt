@@ -1,0 +1,3 @@
+pub mod Recursion
+pub mod Rings
+pub mod Calls
