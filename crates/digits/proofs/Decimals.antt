@@ -1,15 +1,10 @@
-use Prim.Native.Nat.{ℕ, _+_, _-_, _*_, _<_, _≤_, _^_, suc}
-use mathlib.Core.Path.{_≡_, refl, sym, _∙_, ap}
-use mathlib.Core.Bool.{true, false, cond, _&&_}
-use mathlib.Core.Logic.{_⊎_, inl, inr}
-use mathlib.Core.List.{List, [], _∷_}
+use Prim.Native.Nat.{ℕ, _+_, _-_, _*_, _<_, _≤_}
+use mathlib.Core.Path.{_≡_, _∙_}
+use mathlib.Core.List.{List, _∷_}
 use native.Mathlib.Omega.{arith}
-use native.Mathlib.Numerals.{add-one}
-use lib.Dec.{leb}
 use lib.ListN.{length, getD, drop}
 use borrow.Author.Tests.{le-leb, lt-leb}
 use Rattle.std.proofs.shelf.Lists.{at-drop-more, at-drop-all}
-use Rattle.std.proofs.shelf.Ways.{tells}
 use Rattle.std.specs.declared.option.Option.{Option}
 use Rattle.std.specs.declared.option.Option.the-variants.{Some, None}
 use Rattle.digits.specs.Digits.{decimalAfter, decimalOf}
@@ -37,5 +32,5 @@ high-digit n xs i h a = at-drop-more (decimalAfter n) xs i 0 h ∙ head-high n (
 pub all-digits : (n : ℕ) (xs : List ℕ) (i : ℕ) → length xs ≤ i → decimalAfter n (drop i xs) ≡ Some n
 all-digits n xs i h = at-drop-all (decimalAfter n) xs i h
 
-pub in-range : (xs : List ℕ) → (length xs ≡ 0 → ⊥) → length xs ≤ 10 → decimalOf xs ≡ decimalAfter 0 xs
-in-range xs h k = let t : 1 ≤ length xs = omega arith in rw (le-leb 1 (length xs) t, le-leb (length xs) 10 k)
+pub in-range : (xs : List ℕ) → 1 ≤ length xs → length xs ≤ 10 → decimalOf xs ≡ decimalAfter 0 xs
+in-range xs h k = rw (le-leb 1 (length xs) h, le-leb (length xs) 10 k)

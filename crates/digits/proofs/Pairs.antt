@@ -1,4 +1,4 @@
-use Prim.Native.Nat.{ℕ, _+_, _-_, _*_, _<_, _≤_, _/_, _%_}
+use Prim.Native.Nat.{ℕ, _+_, _*_, _<_, _≤_, _/_, _%_}
 use mathlib.Core.Path.{_≡_, refl, sym, _∙_, ap}
 use mathlib.Core.List.{List, [], _∷_, _++_, append-assoc, append-nil}
 use native.Mathlib.Omega.{arith}
@@ -43,34 +43,35 @@ prefixed-pair p x y (Some r) = ap Some (sym (append-assoc p ((x * 16 + y) ∷ []
 pub all-pairs : (p xs : List ℕ) (i : ℕ) → length xs ≤ i → prefixed p (hexOf (drop i xs)) ≡ Some p
 all-pairs p xs i h = at-drop-all (λ l. prefixed p (hexOf l)) xs i h ∙ ap Some (append-nil p)
 
-pub bad-first : (p xs : List ℕ) (i : ℕ) → i + 1 < length xs → nibbleOf (getD xs i 0) ≡ None → prefixed p (hexOf (drop i xs)) ≡ hexOf xs → hexOf xs ≡ None
-bad-first p xs i h n e =
-    sym e ∙ ap (prefixed p) (two-digits xs i h ∙ ap (λ t. paired t (nibbleOf (getD xs (i + 1) 0)) (hexOf (drop (i + 2) xs))) n)
+pub bad-first : (p xs : List ℕ) (i : ℕ) → i + 1 < length xs → nibbleOf (getD xs i 0) ≡ None
+    → prefixed p (hexOf (drop i xs)) ≡ hexOf xs → hexOf xs ≡ None
+bad-first p xs i h n e = let t = two-digits xs i h in cc
 
-pub bad-second : (p xs : List ℕ) (i : ℕ) → i + 1 < length xs → nibbleOf (getD xs (i + 1) 0) ≡ None → prefixed p (hexOf (drop i xs)) ≡ hexOf xs → hexOf xs ≡ None
+pub bad-second : (p xs : List ℕ) (i : ℕ) → i + 1 < length xs → nibbleOf (getD xs (i + 1) 0) ≡ None
+    → prefixed p (hexOf (drop i xs)) ≡ hexOf xs → hexOf xs ≡ None
 bad-second p xs i h n e =
-    sym e
-    ∙ ap (prefixed p)
-    (two-digits xs i h ∙ ap (λ t. paired (nibbleOf (getD xs i 0)) t (hexOf (drop (i + 2) xs))) n ∙ paired-second (nibbleOf (getD xs i 0)) (hexOf (drop (i + 2) xs)))
+    let t = two-digits xs i h in
+    let s = paired-second (nibbleOf (getD xs i 0)) (hexOf (drop (i + 2) xs)) in
+    cc
 
-pub good-pair : (p xs : List ℕ) (i a b : ℕ) → i + 1 < length xs → nibbleOf (getD xs i 0) ≡ Some a → nibbleOf (getD xs (i + 1) 0) ≡ Some b
-    → prefixed p (hexOf (drop i xs)) ≡ hexOf xs → prefixed (p ++ (a * 16 + b) ∷ []) (hexOf (drop (i + 2) xs)) ≡ hexOf xs
+pub good-pair : (p xs : List ℕ) (i a b : ℕ) → i + 1 < length xs
+    → nibbleOf (getD xs i 0) ≡ Some a → nibbleOf (getD xs (i + 1) 0) ≡ Some b → prefixed p (hexOf (drop i xs)) ≡ hexOf xs
+    → prefixed (p ++ (a * 16 + b) ∷ []) (hexOf (drop (i + 2) xs)) ≡ hexOf xs
 good-pair p xs i a b h m n e =
-    sym (prefixed-pair p a b (hexOf (drop (i + 2) xs)))
-    ∙ sym
-    (ap (prefixed p) (two-digits xs i h ∙ ap (λ t. paired t (nibbleOf (getD xs (i + 1) 0)) (hexOf (drop (i + 2) xs))) m ∙ ap (λ t. paired (Some a) t (hexOf (drop (i + 2) xs))) n))
-    ∙ e
+    let t = two-digits xs i h in
+    let s = prefixed-pair p a b (hexOf (drop (i + 2) xs)) in
+    cc
 
 spelled-++ : (xs ys : List ℕ) → spelled (xs ++ ys) ≡ spelled xs ++ spelled ys
 spelled-++ [] ys = refl
 spelled-++ (x ∷ xs) ys = ap (λ t. digitOf (x / 16) ∷ digitOf (x % 16) ∷ t) (spelled-++ xs ys)
 
--- one byte more, as two pushes
-pub spelled-more : (before out mid now′ xs : List ℕ) (i a b : ℕ) → i < length xs → out ≡ before ++ spelled (take i xs)
-    → a ≡ digitOf (getD xs i 0 / 16) → b ≡ digitOf (getD xs i 0 % 16) → mid ≡ out ++ a ∷ [] → now′ ≡ mid ++ b ∷ []
-    → now′ ≡ before ++ spelled (take (i + 1) xs)
-spelled-more before out mid now′ xs i a b h e ea eb m n =
-    let t : spelled (take (i + 1) xs) ≡ spelled (take i xs) ++ a ∷ b ∷ [] =
-    ap spelled (take-more xs i 0 h) ∙ spelled-++ (take i xs) (getD xs i 0 ∷ []) ∙ ap (λ v. spelled (take i xs) ++ v) (cc (ea, eb)) in
-    n ∙ ap (λ v. v ++ b ∷ []) m ∙ append-assoc out (a ∷ []) (b ∷ []) ∙ ap (λ v. v ++ a ∷ b ∷ []) e
-    ∙ append-assoc before (spelled (take i xs)) (a ∷ b ∷ []) ∙ ap (λ v. before ++ v) (sym t)
+-- one byte more
+pub spelled-more : (before out now′ xs : List ℕ) (i : ℕ) → i < length xs → out ≡ before ++ spelled (take i xs)
+    → now′ ≡ out ++ spelled (getD xs i 0 ∷ []) → now′ ≡ before ++ spelled (take (i + 1) xs)
+spelled-more before out now′ xs i h e n =
+    let t = ap spelled (take-more xs i 0 h) ∙ spelled-++ (take i xs) (getD xs i 0 ∷ []) in
+    n
+    ∙ ap (λ v. v ++ spelled (getD xs i 0 ∷ [])) e
+    ∙ append-assoc before (spelled (take i xs)) (spelled (getD xs i 0 ∷ []))
+    ∙ ap (λ v. before ++ v) (sym t)

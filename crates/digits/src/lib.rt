@@ -1,7 +1,7 @@
 ghost use mathlib.Core.Path.{_≡_};
 ghost use mathlib.Core.Logic.{_⊎_};
-ghost use mathlib.Core.List.{_++_};
-ghost use Prim.Native.Nat.{_<_};
+ghost use mathlib.Core.List.{[], _∷_, _++_};
+ghost use Prim.Native.Nat.{_+_, _*_, _<_};
 ghost use Rattle.std.specs.declared.option.Option.the-variants.{Some, None};
 ghost use Rattle.std.specs.declared.result.Result.the-variants.{Ok, Err};
 ghost use Rattle.std.specs.Of.Vec.{vec-items};
@@ -26,11 +26,14 @@ pub fn nibble(b: u8) -> Option<u8>
     }
 }
 
+// How many digits a decimal number may have.
+const MOST_DIGITS: usize = 10;
+
 // A number of 1 to 10 decimal digits.
 pub fn decimal(text: &[u8]) -> Option<u64>
     ensures { λ r. ⌜ r ≡ decimalOf (now (text .entry)) ⌝ }
 {
-    if text.len() == 0 || text.len() > 10 {
+    if text.len() == 0 || text.len() > MOST_DIGITS {
         return None;
     }
     let mut value = 0u64;
@@ -71,6 +74,14 @@ fn digit(b: u8) -> Result<u8, HexError>
     }
 }
 
+// The byte of two hex digits.
+fn byte(high: u8, low: u8) -> u8
+    requires { ⌜ high < 16 ⌝ ∗ ⌜ low < 16 ⌝ }
+    ensures { λ r. ⌜ r ≡ high * 16 + low ⌝ }
+{
+    16 * high + low
+}
+
 // The bytes that pairs of hex digits spell.
 pub fn hex(heap: Global, text: &[u8]) -> Result<Vec<u8>, HexError>
     ensures { λ r. ⌜ Cases r (λ v. hexOf (now (text .entry)) ≡ Some (vec-items v))
@@ -84,7 +95,7 @@ pub fn hex(heap: Global, text: &[u8]) -> Result<Vec<u8>, HexError>
     while i < text.len() {
         let high = digit(text[i])?;
         let low = digit(text[i + 1])?;
-        out.push(high * 16 + low)?;
+        out.push(byte(high, low))?;
         i += 2;
     }
     Ok(out)
@@ -98,13 +109,20 @@ fn hex_digit(v: u8) -> u8
     if v < 10 { v + b'0' } else { v - 10 + b'a' }
 }
 
+// A byte as two hex digits, the higher one first.
+fn hex_pair(b: u8) -> [u8; 2]
+    ensures { λ r. ⌜ r ≡ spelled (b ∷ []) ⌝ }
+{
+    [hex_digit(b / 16), hex_digit(b % 16)]
+}
+
 // Adds bytes as hex to a text.
 pub fn push_hex(text: &mut Vec<u8>, bytes: &[u8]) -> Result<(), AllocError>
-    ensures { λ r. ⌜ made r (λ _. vec-items (now (text .exit)) ≡ vec-items (now (text .entry)) ++ spelled (now (bytes .entry))) ⌝ }
+    ensures { λ r. ⌜ made r
+        (λ _. vec-items (now (text .exit)) ≡ vec-items (now (text .entry)) ++ spelled (now (bytes .entry))) ⌝ }
 {
     for b in bytes {
-        text.push(hex_digit(*b / 16))?;
-        text.push(hex_digit(*b % 16))?;
+        text.extend_from_slice(&hex_pair(*b))?;
     }
     Ok(())
 }

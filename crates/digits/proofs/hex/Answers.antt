@@ -1,8 +1,7 @@
-use borrow.Author.Needs.{needs}
-use mathlib.Core.Path.{_≡_, sym, _∙_, ap}
+use mathlib.Core.Path.{sym, _∙_}
 use mathlib.Core.Logic.{inl, inr}
 use native.Mathlib.Omega.{arith}
-use Prim.Native.Nat.{_+_, _*_, _<_}
+use Prim.Native.Nat.{_+_, _<_}
 use lib.ListN.{length}
 use Rattle.std.specs.Of.Vec.{vec-items}
 use Rattle.std.proofs.shelf.Results.{err-from-errBy}
@@ -32,7 +31,9 @@ returns-in-Break-push c =
 pub loop-i-again : need.loop-i-again
 loop-i-again c =
     let h : c .loop-i .i + 1 < length (c .args .text .now) = omega arith in
-    let e = good-pair (vec-items (c .loop-i .out)) (c .args .text .now) (c .loop-i .i) (c .in-Continue-high .high) (c .in-Continue-low .low) h (c .in-Continue-high .ensures tt .0) (c .in-Continue-low .ensures tt .0) (c .loop-i .inv .0) in
+    let high = c .in-Continue-high .ensures tt .0 in
+    let low = c .in-Continue-low .ensures tt .0 in
+    let e = good-pair (vec-items (c .loop-i .out)) (c .args .text .now) (c .loop-i .i) _ _ h high low (c .loop-i .inv .0) in
     let i = c .in-Continue-push .ensures tt .items in
     (cc, omega arith, omega arith)
 

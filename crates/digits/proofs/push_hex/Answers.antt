@@ -1,6 +1,6 @@
 use Prim.Native.Nat.{_≤_}
 use mathlib.Core.List.{_++_}
-use mathlib.Core.Path.{_≡_, ap, _∙_}
+use mathlib.Core.Path.{ap, _∙_}
 use native.Mathlib.Omega.{arith}
 use lib.ListN.{length}
 use Rattle.std.specs.Of.Vec.{vec-items}
@@ -11,9 +11,9 @@ use Rattle.digits.proofs.push_hex.Needs as need
 
 pub loop-b-again : need.loop-b-again
 loop-b-again c =
-    spelled-more (vec-items (c .args .text .now)) (vec-items (c .loop-b .text)) (vec-items (c .push .last .self)) _ (c .args .bytes .now)
-    (c .loop-b .b-index) (c .hex-digit .result) (c .hex-digit-in-loop-b .result) (c .loop-b-test .taken) (c .loop-b .inv)
-    (c .hex-digit .ensures) (c .hex-digit-in-loop-b .ensures) (c .in-Continue-push .ensures tt .items) (c .in-Continue-push-2 .ensures tt .items)
+    spelled-more (vec-items (c .args .text .now)) (vec-items (c .loop-b .text)) _ (c .args .bytes .now) (c .loop-b .b-index)
+    (c .loop-b-test .taken) (c .loop-b .inv)
+    (c .in-Continue-extend-from-slice .ensures tt .items ∙ ap (λ v. vec-items (c .loop-b .text) ++ v) (c .hex-pair .ensures))
 
 pub returns : need.returns
 returns c =

@@ -1,0 +1,5 @@
+pub mod Fields
+pub mod Held
+pub mod Queries
+pub mod Parsing
+pub mod Answers
