@@ -3,11 +3,13 @@ ghost use Rattle.mother.specs.Generators.{Lawful};
 ghost use Rattle.booter.specs.Registers.{Step-there-and-back, Step-back-and-there};
 ghost use Rattle.booter.specs.Sequences.{words, Sequences-stand};
 ghost use Rattle.booter.specs.Calls.{Tells, Fresh, Sane, startFrom, wordFrom};
+use mother::LIMIT;
 use mother::Mother;
 use mother::two_way::TwoWay;
 use refusal::Refusal;
 use register::Register;
 use row::Row;
+use row::RowDefault;
 
 mod register;
 
@@ -15,9 +17,6 @@ mod register;
 const ROW_BYTES: usize = 16;
 
 const MOST_BYTES: usize = 16 * ROW_BYTES;
-
-// How many words there are.
-const LIMIT: u64 = 1 << 34;
 
 // The booter: a register of rows into which each step feeds a row back. It goes both ways. The
 // words in force are those that undoing all steps since place 0 comes to, so no key and no IV is
@@ -84,6 +83,8 @@ pub impl Mother for Booter as BooterMother {
         self.at += 1;
         Ok(output)
     }
+
+    fn words_are_small() {}
 
     fn place(&self) -> u64 {
         self.at

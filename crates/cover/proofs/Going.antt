@@ -26,18 +26,18 @@ use Rattle.cover.specs.Follow.{Follows, At, Going, Block-made, Next-block}
 use Rattle.cover.proofs.Following.{follows-at}
 
 -- a change of a first part and then of a second
-pub changed-join : (k k′ : ℕ → ℕ) (a n : ℕ) (old mid new : List ℕ) → Changed k 0 a old mid → Changed k′ a (a + n) mid new
-    → ((i : ℕ) → i < n → k′ (a + i) ≡ k (a + i)) → Changed k 0 (a + n) old new
-changed-join k k′ a n old mid new p q same =
+pub changed-join : (k k′ : ℕ → ℕ) (s a n : ℕ) (old mid new : List ℕ) → s ≤ a → Changed k s a old mid → Changed k′ a (a + n) mid new
+    → ((i : ℕ) → i < n → k′ (a + i) ≡ k (a + i)) → Changed k s (a + n) old new
+changed-join k k′ s a n old mid new order p q same =
     record {
       long = q .long ∙ p .long;
-      before = λ i h. absurd (omega arith);
-      within = λ i h h′. ⊎-elim (first i) (second i h′) (cases-lt i a);
+      before = λ i h. q .before i (omega arith) ∙ p .before i h;
+      within = λ i h h′. ⊎-elim (first i h) (second i h′) (cases-lt i a);
       after = λ i h. q .after i h ∙ p .after i (omega arith);
     }
   where
-    first : (i : ℕ) → i < a → getD new i 0 ≡ bitXor (getD old i 0) (k i)
-    first i lt = q .before i lt ∙ p .within i (omega arith) lt
+    first : (i : ℕ) → s ≤ i → i < a → getD new i 0 ≡ bitXor (getD old i 0) (k i)
+    first i le lt = q .before i lt ∙ p .within i le lt
 
     second : (i : ℕ) → i < a + n → a ≤ i → getD new i 0 ≡ bitXor (getD old i 0) (k i)
     second i lt le =
@@ -160,7 +160,7 @@ module _ {M F W Y : Type 0} (m : Generator M W) (f : Ghosts F W Y) (some : 1 ≤
           from = λ h. omega (arith, kept h .0);
           block = λ h. ap (take (f .size)) (kept h .1) ∙ next .1 ∙ ap (blockBytes f ws) (omega arith);
         };
-        changed = changed-join (λ j. byteAt f ws (p + j)) _ n c old bs new (go .changed) ch byte;
+        changed = changed-join (λ j. byteAt f ws (p + j)) _ 0 n c old bs new (omega arith) (go .changed) ch byte;
       }
     where
       i : ℕ

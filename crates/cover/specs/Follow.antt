@@ -4,7 +4,7 @@ use mathlib.Core.Bool.{Bool}
 use mathlib.Core.List.{List}
 use mathlib.Core.Path.{_≡_}
 use lib.Dec.{eqb}
-use lib.ListN.{length, take}
+use lib.ListN.{length, getD, take}
 use Rattle.std.specs.declared.result.Result.{Result}
 use Rattle.std.specs.declared.result.Result.the-variants.{Ok, Err}
 use Rattle.refusal.specs.declared.Refusal.{Refusal}
@@ -17,6 +17,13 @@ use Rattle.cover.specs.Lists.{Changed}
 
 abbrev Unit₀ : Type 0
 Unit₀ = Unit {0}
+
+-- a group of four blocks from byte `at` on, which is the first of block i, with the 8 words after the memory y
+abbrev pub Group-covered : {F W Y : Type 0} → Ghosts F W Y → Y → List W → ℕ → List ℕ → Y → List ℕ → Type 0
+Group-covered {W = W} f y words at old y′ new =
+    (ws : Words W) (i p : ℕ) → 1 ≤ i → p + at ≡ i * f .size → y ≡ memory f ws (2 * i - 1)
+    → ((k : ℕ) (d : W) → k < 8 → getD words k d ≡ ws .word (2 * i - 1 + k))
+    → (y′ ≡ memory f ws (2 * (i + 4) - 1)) × Changed (λ j. byteAt f ws (p + j)) at (at + 4 * f .size) old new
 
 -- how many bytes of a buffer of `long` bytes are to be covered yet, after n, and that there is room for their positions
 pub record Room {Y : Type 0} (st : Stage Y) (long n : ℕ) : Type 0 where

@@ -6,6 +6,9 @@ ghost use Rattle.std.specs.Vec.{made as granted};
 ghost use Rattle.cover.specs.Follow.{Room, Left-used, Goes-on, Followed};
 use crate::stage::Progress;
 use crate::stage::Stage;
+use crate::steps::GROUP;
+use crate::steps::GROUP_WORDS;
+use crate::steps::cover_group;
 use crate::steps::make_block;
 use crate::steps::xor_part;
 use keystream::Filter;
@@ -13,7 +16,7 @@ use mother::Mother;
 use refusal::Refusal;
 
 // Covers with what is left of the block made last, and answers how many bytes.
-pub fn use_left<M: Mother, F: Filter<Word = M::Word>>(
+fn use_left<M: Mother, F: Filter<Word = M::Word>>(
     stage: &mut Stage<F::Memory>,
     bytes: &mut [u8],
 ) -> usize
@@ -35,8 +38,117 @@ pub fn use_left<M: Mother, F: Filter<Word = M::Word>>(
     count
 }
 
+// Covers one block from byte `at` on, and answers where it ends.
+fn one_block<M: Mother, F: Filter<Word = M::Word>>(
+    mother: &mut M,
+    stage: &mut Stage<F::Memory>,
+    bytes: &mut [u8],
+    at: usize,
+) -> Result<usize, Refusal>
+    requires { ⌜ Room (now stage) (length (now bytes)) at ⌝ }
+    requires { ⌜ F·Filter .size ≤ length (now bytes) - at ⌝ }
+    ensures left { λ r. ⌜ now (stage .exit) .progress .left ≡ now (stage .entry) .progress .left ⌝ }
+    ensures room { λ r. ⌜ granted r (λ n. Room (now (stage .exit)) (length (now (bytes .entry))) n) ⌝ }
+    ensures end { λ r. ⌜ granted r (λ n. n ≡ at + F·Filter .size) ⌝ }
+    ensures covers { λ r. ⌜ Goes-on (means M·Mother) F·Filter at (now (mother .entry)) (now (stage .entry))
+        (now (bytes .entry)) r (now (mother .exit)) (now (stage .exit)) (now (bytes .exit)) ⌝ }
+{
+    let size = F::size();
+    let fresh = stage.progress.position == 0;
+    let made = make_block::<M, F>(mother, stage.made.memory, fresh)?;
+    xor_part(bytes, at, &made.block, 0, size);
+    stage.made.memory = made.memory;
+    stage.progress.position += size as u64;
+    Ok(at + size)
+}
+
+// Covers one group of blocks from byte `at` on, and answers where it ends; `words` is room for its
+// words. Not for the first block of all, which takes in one word only.
+fn one_group<M: Mother, F: Filter<Word = M::Word>>(
+    mother: &mut M,
+    stage: &mut Stage<F::Memory>,
+    words: &mut [M::Word],
+    bytes: &mut [u8],
+    at: usize,
+) -> Result<usize, Refusal>
+    requires { ⌜ Room (now stage) (length (now bytes)) at ⌝ }
+    requires { ⌜ 4 * F·Filter .size ≤ length (now bytes) - at ⌝ ∗ ⌜ 0 < now stage .progress .position ⌝ }
+    requires { ⌜ length (now words) ≡ 8 ⌝ }
+    ensures left { λ r. ⌜ now (stage .exit) .progress .left ≡ now (stage .entry) .progress .left ⌝ }
+    ensures room { λ r. ⌜ granted r (λ n. Room (now (stage .exit)) (length (now (bytes .entry))) n) ⌝ }
+    ensures end { λ r. ⌜ granted r (λ n. n ≡ at + 4 * F·Filter .size) ⌝ }
+    ensures covers { λ r. ⌜ Goes-on (means M·Mother) F·Filter at (now (mother .entry)) (now (stage .entry))
+        (now (bytes .entry)) r (now (mother .exit)) (now (stage .exit)) (now (bytes .exit)) ⌝ }
+{
+    let size = GROUP * F::size();
+    mother.fill(words)?;
+    stage.made.memory = cover_group::<F>(stage.made.memory, words, bytes, at);
+    stage.progress.position += size as u64;
+    Ok(at + size)
+}
+
+// Covers the first block of all, if it is whole, and answers where it ends.
+fn first_block<M: Mother, F: Filter<Word = M::Word>>(
+    mother: &mut M,
+    stage: &mut Stage<F::Memory>,
+    bytes: &mut [u8],
+    at: usize,
+) -> Result<usize, Refusal>
+    requires { ⌜ Room (now stage) (length (now bytes)) at ⌝ }
+    ensures left { λ r. ⌜ now (stage .exit) .progress .left ≡ now (stage .entry) .progress .left ⌝ }
+    ensures room { λ r. ⌜ granted r (λ n. Room (now (stage .exit)) (length (now (bytes .entry))) n) ⌝ }
+    ensures covers { λ r. ⌜ Goes-on (means M·Mother) F·Filter at (now (mother .entry)) (now (stage .entry))
+        (now (bytes .entry)) r (now (mother .exit)) (now (stage .exit)) (now (bytes .exit)) ⌝ }
+{
+    if stage.progress.position > 0 || bytes.len() - at < F::size() {
+        return Ok(at);
+    }
+    one_block::<M, F>(mother, stage, bytes, at)
+}
+
+// Covers groups of blocks from byte `start` on, and answers where less than a group is left; `words`
+// is room for the words of a group.
+fn groups<M: Mother, F: Filter<Word = M::Word>>(
+    mother: &mut M,
+    stage: &mut Stage<F::Memory>,
+    words: &mut [M::Word],
+    bytes: &mut [u8],
+    start: usize,
+) -> Result<usize, Refusal>
+    requires { ⌜ Room (now stage) (length (now bytes)) start ⌝ ∗ ⌜ length (now words) ≡ 8 ⌝ }
+    ensures left { λ r. ⌜ now (stage .exit) .progress .left ≡ now (stage .entry) .progress .left ⌝ }
+    ensures room { λ r. ⌜ granted r (λ at. Room (now (stage .exit)) (length (now (bytes .entry))) at) ⌝ }
+    ensures covers { λ r. ⌜ Goes-on (means M·Mother) F·Filter start (now (mother .entry)) (now (stage .entry))
+        (now (bytes .entry)) r (now (mother .exit)) (now (stage .exit)) (now (bytes .exit)) ⌝ }
+{
+    let size = GROUP * F::size();
+    let mut at = start;
+    while stage.progress.position > 0 && bytes.len() - at >= size {
+        at = one_group::<M, F>(mother, stage, words, bytes, at)?;
+    }
+    Ok(at)
+}
+
+// Covers groups of blocks from byte `start` on, and answers where less than a group is left.
+fn many_blocks<M: Mother, F: Filter<Word = M::Word>>(
+    mother: &mut M,
+    stage: &mut Stage<F::Memory>,
+    bytes: &mut [u8],
+    start: usize,
+) -> Result<usize, Refusal>
+    requires { ⌜ Room (now stage) (length (now bytes)) start ⌝ }
+    ensures left { λ r. ⌜ now (stage .exit) .progress .left ≡ now (stage .entry) .progress .left ⌝ }
+    ensures room { λ r. ⌜ granted r (λ at. Room (now (stage .exit)) (length (now (bytes .entry))) at) ⌝ }
+    ensures covers { λ r. ⌜ Goes-on (means M·Mother) F·Filter start (now (mother .entry)) (now (stage .entry))
+        (now (bytes .entry)) r (now (mother .exit)) (now (stage .exit)) (now (bytes .exit)) ⌝ }
+{
+    M::words_are_small();
+    let mut words = [M::Word::default(); GROUP_WORDS];
+    groups::<M, F>(mother, stage, &mut words, bytes, start)
+}
+
 // Covers whole blocks from byte `start` on, and answers where less than a block is left.
-pub fn whole_blocks<M: Mother, F: Filter<Word = M::Word>>(
+fn whole_blocks<M: Mother, F: Filter<Word = M::Word>>(
     mother: &mut M,
     stage: &mut Stage<F::Memory>,
     bytes: &mut [u8],
@@ -52,18 +164,13 @@ pub fn whole_blocks<M: Mother, F: Filter<Word = M::Word>>(
     let size = F::size();
     let mut at = start;
     while bytes.len() - at >= size {
-        let fresh = stage.progress.position == 0;
-        let made = make_block::<M, F>(mother, stage.made.memory, fresh)?;
-        xor_part(bytes, at, &made.block, 0, size);
-        stage.made.memory = made.memory;
-        stage.progress.position += size as u64;
-        at += size;
+        at = one_block::<M, F>(mother, stage, bytes, at)?;
     }
     Ok(at)
 }
 
 // Covers what is left from byte `at` on, less than a block, and keeps the rest of the block.
-pub fn last_part<M: Mother, F: Filter<Word = M::Word>>(
+fn last_part<M: Mother, F: Filter<Word = M::Word>>(
     mother: &mut M,
     stage: &mut Stage<F::Memory>,
     bytes: &mut [u8],
@@ -91,6 +198,24 @@ pub fn last_part<M: Mother, F: Filter<Word = M::Word>>(
     Ok(bytes.len())
 }
 
+// Covers all from byte `start` on, with new blocks, and answers the end.
+fn blocks<M: Mother, F: Filter<Word = M::Word>>(
+    mother: &mut M,
+    stage: &mut Stage<F::Memory>,
+    bytes: &mut [u8],
+    start: usize,
+) -> Result<usize, Refusal>
+    requires { ⌜ Room (now stage) (length (now bytes)) start ⌝ }
+    ensures end { λ r. ⌜ granted r (λ n. n ≡ length (now (bytes .entry))) ⌝ }
+    ensures covers { λ r. ⌜ Goes-on (means M·Mother) F·Filter start (now (mother .entry)) (now (stage .entry))
+        (now (bytes .entry)) r (now (mother .exit)) (now (stage .exit)) (now (bytes .exit)) ⌝ }
+{
+    let first = first_block::<M, F>(mother, stage, bytes, start)?;
+    let many = many_blocks::<M, F>(mother, stage, bytes, first)?;
+    let whole = whole_blocks::<M, F>(mother, stage, bytes, many)?;
+    last_part::<M, F>(mother, stage, bytes, whole)
+}
+
 // Covers all of `bytes`.
 pub fn follow<M: Mother, F: Filter<Word = M::Word>>(
     mother: &mut M,
@@ -105,7 +230,6 @@ pub fn follow<M: Mother, F: Filter<Word = M::Word>>(
     if used == bytes.len() {
         return Ok(());
     }
-    let at = whole_blocks::<M, F>(mother, stage, bytes, used)?;
-    let _ = last_part::<M, F>(mother, stage, bytes, at)?;
+    let _ = blocks::<M, F>(mother, stage, bytes, used)?;
     Ok(())
 }

@@ -3,9 +3,8 @@ ghost use Prim.Native.Nat.{ℕ, _+_, _-_, _*_, _<_, _≤_, _^_};
 ghost use lib.ListN.{length, getD};
 ghost use Rattle.mother.specs.Means.{means};
 ghost use Rattle.cover.specs.Lists.{Changed};
-ghost use Rattle.cover.specs.Follow.{Advanced, Block-made};
+ghost use Rattle.cover.specs.Follow.{Advanced, Block-made, Group-covered};
 use crate::stage::Made;
-use crate::stage::Stage;
 use keystream::Filter;
 use mother::Mother;
 use refusal::Refusal;
@@ -50,4 +49,32 @@ pub fn make_block<M: Mother, F: Filter<Word = M::Word>>(
         memory: second,
         block: F::block(first, second),
     })
+}
+
+// How many blocks a group has, each of two words.
+pub const GROUP: usize = 4;
+
+pub const GROUP_WORDS: usize = 8;
+
+// Covers a group of blocks from byte `at` on with the words after `memory`, and answers the memory
+// after them. A group is short, so that the next words are made while this memory is waited for.
+pub fn cover_group<F: Filter>(
+    memory: F::Memory,
+    words: &[F::Word],
+    bytes: &mut [u8],
+    at: usize,
+) -> F::Memory
+    requires { ⌜ length (now words) ≡ 8 ⌝ ∗ ⌜ at + 4 * F·Filter .size ≤ length (now bytes) ⌝ }
+    ensures { λ r. ⌜ Group-covered F·Filter memory (now (words .entry)) at (now (bytes .entry)) r (now (bytes .exit)) ⌝ }
+{
+    let size = F::size();
+    let mut y = memory;
+    let mut from = at;
+    for i in 0..GROUP {
+        let first = F::step(y, words[2 * i]);
+        y = F::step(first, words[2 * i + 1]);
+        xor_part(bytes, from, &F::block(first, y), 0, size);
+        from += size;
+    }
+    y
 }

@@ -12,7 +12,7 @@ use Rattle.handover.specs.Calls.{Recorded, Held, Put, Put-next, Turned-on, Goe
 use Rattle.handover.proofs.Turns.{kept-more}
 use Rattle.handover.proofs.Places.{held-none, held-same, kept-same, held-more, held-last, held-onwards, held-newest, held-backwards, held-seam, held-fewer}
 
-word-late : (w : ℕ → Row) (n : ℕ) → 156 ≤ n → later w n ≡ x w (n + 1)
+pub word-late : (w : ℕ → Row) (n : ℕ) → 156 ≤ n → later w n ≡ x w (n + 1)
 word-late w n l = cond-false _ _ _ (le-ltb n 156 l)
 
 pub nothing-held : (w : ℕ → Row) (s : Ring) → Held w s 0

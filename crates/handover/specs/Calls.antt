@@ -1,7 +1,8 @@
 -- What the calls on a ring do, and how it agrees with the generator below. Everywhere w has the words below.
 use Prim.Native.Nat.{ℕ, min, _+_, _-_, _<_, _≤_}
 use mathlib.Core.Path.{_≡_}
-use lib.ListN.{set}
+use mathlib.Core.List.{List}
+use lib.ListN.{length, getD, set}
 use Rattle.row.specs.declared.Row.{Row}
 use Rattle.mother.specs.Generators.{Generator}
 use Rattle.handover.specs.declared.ring.Ring.{Ring}
@@ -48,6 +49,23 @@ pub record Goes-on (s : Ring) (r : Row) (t : Ring) : Type 0 where
   pub word : (w : ℕ → Row) (n : ℕ) → 156 ≤ n → Held w s n → r ≡ later w n
   pub held : (w : ℕ → Row) (n : ℕ) → 156 ≤ n → Held w s n → Held w t (n + 1)
   pub seam : (w : ℕ → Row) (n : ℕ) → n ≡ 155 → Recorded w s (n + 1) → Held w t (n + 1)
+
+-- so many steps on, from place 156 or a later one
+pub record Turned-into (s t : Ring) (words : List Row) : Type 0 where
+  pub held : (w : ℕ → Row) (n : ℕ) → 156 ≤ n → Held w s n → Held w t (n + length words)
+  pub reads : (w : ℕ → Row) (n : ℕ) → 156 ≤ n → Held w s n
+      → (i : ℕ) (d : Row) → i < length words → getD words i d ≡ later w (n + i)
+
+-- i of them, with the indices of the oldest and the middle row and the newest row itself outside the ring
+pub record Turning (s : Ring) (rows : List Row) (head middle : ℕ) (newest : Row) (i : ℕ) (words : List Row) : Type 0 where
+  pub inside : head < 156
+  pub full : length rows ≡ 156
+  pub below : middle < 156
+  pub is-middle : middle ≡ wrap (head + 108)
+  pub is-newest : newest ≡ kth rows head 155
+  pub held : (w : ℕ → Row) (n : ℕ) → 156 ≤ n → Held w s n → HeldAt w rows head (n + i)
+  pub reads : (w : ℕ → Row) (n : ℕ) → 156 ≤ n → Held w s n
+      → (k : ℕ) (d : Row) → k < i → getD words k d ≡ later w (n + k)
 
 -- a step back
 pub record Turned-back (s : Ring) (r : Row) (t : Ring) : Type 0 where

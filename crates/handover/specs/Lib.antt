@@ -1,3 +1,4 @@
 pub mod Recursion
 pub mod Rings
 pub mod Calls
+pub mod Means

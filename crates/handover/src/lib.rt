@@ -4,16 +4,15 @@ ghost use Rattle.mother.specs.Means.{means};
 ghost use Rattle.handover.specs.Recursion.{later, over, First-row, First-rows, Later-rows, Words-early, Words-late};
 ghost use Rattle.handover.specs.Rings.{Step-there-and-back, Step-back-and-there};
 ghost use Rattle.handover.specs.Calls.{Joined, Fresh};
+use mother::LIMIT;
 use mother::Mother;
 use mother::two_way::TwoWay;
 use refusal::Refusal;
 use ring::Ring;
 use row::Row;
+use row::RowDefault;
 
 mod ring;
-
-// How many words there are.
-const LIMIT: u64 = 1 << 34;
 
 // How many of them are the words of the generator below.
 const PASSED_ON: u64 = 156;
@@ -75,6 +74,24 @@ pub impl<M: Mother<Word = Row>> Mother for Handover<M> as HandoverMother {
             Ok(row)
         }
     }
+
+    // The words of the generator below come one by one, those of the recursion all at once.
+    fn fill(&mut self, words: &mut [Row]) -> Result<(), Refusal> {
+        if words.len() as u64 > LIMIT - self.at {
+            return Err(Refusal::PastLast);
+        }
+        if self.at < PASSED_ON {
+            for word in words.iter_mut() {
+                *word = self.next()?;
+            }
+            return Ok(());
+        }
+        self.ring.forward_into(words);
+        self.at += words.len() as u64;
+        Ok(())
+    }
+
+    fn words_are_small() {}
 
     fn place(&self) -> u64 {
         self.at

@@ -1,7 +1,7 @@
 -- The wide filter: its memory is a row, and two memories give a block of 16 bytes.
-use Prim.Native.Nat.{ℕ, _*_, _/_, _%_, _^_}
+use Prim.Native.Nat.{ℕ, _*_, _%_, _^_}
 use mathlib.Core.List.{List}
-use lib.Bits.{bitOr, bitXor, bitAnd}
+use lib.Bits.{bitOr}
 use Rattle.row.specs.declared.Row.{Row}
 use Rattle.row.specs.Rows.{row, each, both, _⊗₃₂_, _⊕_, _&_, _>>₃₂_, ps3}
 use Rattle.row.specs.Bytes.{rowBytes}
@@ -28,10 +28,6 @@ stepped y x = ps3 y ⊗₃₂ x
 -- the output row of two memories, one after the other
 unfoldable pub output : Row → Row → Row
 output y y′ = (y ⊕ y >>₃₂ 16) & LOWER16 ∣ (y′ ⊕ y′ <<₃₂ 16) & UPPER16
-
--- a lane of it
-abbrev pub outputLane : ℕ → ℕ → ℕ
-outputLane a b = bitOr (bitAnd (bitXor a (a / 2 ^ 16)) 0x0000ffff) (bitAnd (bitXor b (b * 2 ^ 16 % 2 ^ 32)) 0xffff0000)
 
 -- and its bytes, from the lower bits up
 abbrev pub outputBytes : Row → Row → List ℕ

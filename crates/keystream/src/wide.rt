@@ -1,8 +1,10 @@
 ghost use mathlib.Core.Path.{_≡_};
 ghost use lib.ListN.{take};
-ghost use Rattle.keystream.specs.Wides.{stepped, outputLane, outputBytes};
+ghost use Rattle.keystream.specs.Wides.{stepped, output, outputBytes};
 use crate::Filter;
 use row::Row;
+use row::RowDefault;
+use std::simd::prelude::*;
 
 // The filter over rows, with blocks of 16 bytes.
 #[derive(Drop)]
@@ -10,15 +12,28 @@ pub struct Wide;
 
 const BLOCK: usize = 16;
 
+// Half of the bits of a lane.
+const HALF: u32 = 16;
+
 const LOWER16: u32 = 0x0000_ffff;
 
 const UPPER16: u32 = 0xffff_0000;
 
-// The halves of `y` joined below, and those of `z` above.
-fn output_lane(y: u32, z: u32) -> u32
-    ensures { λ r. ⌜ r ≡ outputLane y z ⌝ }
+// The output row: the halves of each lane of `y` joined below, and those of `z` above.
+fn output_row(y: Row, z: Row) -> Row
+    ensures { λ r. ⌜ r ≡ output y z ⌝ }
 {
-    ((y ^ (y >> 16)) & LOWER16) | ((z ^ (z << 16)) & UPPER16)
+    let a = u32x4::from_array([y.l0, y.l1, y.l2, y.l3]);
+    let b = u32x4::from_array([z.l0, z.l1, z.l2, z.l3]);
+    let lower = (a ^ (a >> u32x4::splat(HALF))) & u32x4::splat(LOWER16);
+    let upper = (b ^ (b << u32x4::splat(HALF))) & u32x4::splat(UPPER16);
+    let out = (lower | upper).to_array();
+    Row {
+        l0: out[0],
+        l1: out[1],
+        l2: out[2],
+        l3: out[3],
+    }
 }
 
 pub impl Filter for Wide as WideFilter {
@@ -47,12 +62,6 @@ pub impl Filter for Wide as WideFilter {
     }
 
     fn block(y: Row, z: Row) -> [u8; 16] {
-        let out = Row {
-            l0: output_lane(y.l0, z.l0),
-            l1: output_lane(y.l1, z.l1),
-            l2: output_lane(y.l2, z.l2),
-            l3: output_lane(y.l3, z.l3),
-        };
-        out.to_bytes()
+        output_row(y, z).to_bytes()
     }
 }

@@ -3,7 +3,10 @@ use mathlib.Core.Path.{_≡_}
 use mathlib.Core.List.{List}
 use mathlib.Core.Logic.{_⊎_}
 use Prim.Native.Nat.{ℕ, _+_, _-_, _^_, _%_, _<_, _≤_}
-use lib.ListN.{length}
+use lib.ListN.{length, getD}
+use prog.Memory.{size}
+use denote.Param.{layout}
+use denote.RattleType.{RattleType}
 use Rattle.std.specs.declared.result.Result.{Result}
 use Rattle.std.specs.declared.result.Result.the-variants.{Ok, Err}
 use Rattle.refusal.specs.declared.Refusal.{Refusal}
@@ -26,6 +29,10 @@ abbrev pub generator : {S W : Type 0} → (S → W) → (S → ℕ → W) → (S
     → Generator S W
 generator start word place given sound =
     record { start = start; word = word; place = place; given = given; sound = sound }
+
+-- a word takes fewer than 2 ^ 32 bytes, so that a few of them fit in memory
+abbrev pub Small : RattleType → Type 0
+Small R = size (layout R) < 2 ^ 32
 
 -- how many words a generator has
 abbrev pub limit : ℕ
@@ -66,6 +73,25 @@ Next m s (Ok w) s′ =
     m .sound s → m .sound s′ × (m .place s < limit) × (w ≡ m .word s (m .place s)) × Stays m s s′ (m .place s + 1)
 Next m s (Err e) s′ =
     m .sound s → m .sound s′ × (m .place s ≡ limit) × (numbered e ≡ 15) × Stays m s s′ (m .place s)
+
+-- a list holds the words w from place p on
+abbrev pub Reads : {W : Type 0} → (ℕ → W) → ℕ → List W → Type 0
+Reads {W} w p ws = (i : ℕ) (d : W) → i < length ws → getD ws i d ≡ w (p + i)
+
+-- from state s, i words were read to the front of a list
+pub record Filled {S W : Type 0} (m : Generator S W) (s : S) (i : ℕ) (s′ : S) (ws : List W) : Type 0 where
+  pub sound : m .sound s′
+  pub stays : Stays m s s′ (m .place s + i)
+  pub reads : (k : ℕ) (d : W) → k < i → getD ws k d ≡ m .word s (m .place s + k)
+
+-- fill answers as many words as a buffer has, as so many calls of next; it is refused by 15 exactly where they would pass
+-- the limit, and then nothing is changed
+abbrev pub Fills : {S W : Type 0} → Generator S W → S → List W → Result (Unit {0}) Refusal → S → List W → Type 0
+Fills m s old (Ok _) s′ new =
+    m .sound s → m .sound s′ × (m .place s + length old ≤ limit) × Reads (m .word s) (m .place s) new
+    × Stays m s s′ (m .place s + length old)
+Fills m s old (Err e) s′ new =
+    m .sound s → m .sound s′ × (limit < m .place s + length old) × (numbered e ≡ 15) × (new ≡ old) × Stays m s s′ (m .place s)
 
 -- back answers the word before the place, and is refused by 14 exactly at place 0
 abbrev pub Back : {S W : Type 0} → Generator S W → S → Result W Refusal → S → Type 0

@@ -26,11 +26,14 @@ pub fn step(mask: Row, prev: Row, m: Row, oldest: Row) -> Row
     ensures { λ r. ⌜ r ≡ stepRow mask prev m oldest ⌝ }
 {
     let a = mix(mask, prev, m);
+    let b = u32x4::from_array([a.l0, a.l1, a.l2, a.l3]);
+    let c = u32x4::from_array([oldest.l0, oldest.l1, oldest.l2, oldest.l3]);
+    let d = (b ^ c.swizzle([1, 2, 3, 0])).to_array();
     Row {
-        l0: a.l0 ^ oldest.l1,
-        l1: a.l1 ^ oldest.l2,
-        l2: a.l2 ^ oldest.l3,
-        l3: a.l3 ^ oldest.l0,
+        l0: d[0],
+        l1: d[1],
+        l2: d[2],
+        l3: d[3],
     }
 }
 

@@ -4,7 +4,7 @@ ghost use Rattle.row.specs.declared.Row.{Row};
 ghost use Rattle.handover.specs.Recursion.{marked as markedRow};
 ghost use Rattle.handover.specs.Rings.{wrap};
 ghost use Rattle.handover.specs.Calls.{kthOf, newerOf, olderOf, Seeded, Put, Put-next};
-ghost use Rattle.handover.specs.Calls.{Turned-on, Goes-on, Turned-back, Goes-back, Recorded-next, Forgot};
+ghost use Rattle.handover.specs.Calls.{Turned-on, Goes-on, Turned-into, Turned-back, Goes-back, Recorded-next, Forgot};
 use crate::ring::ROWS;
 use crate::ring::Ring;
 use row::Row;
@@ -108,6 +108,24 @@ impl Ring {
         self.put(OLDEST, new);
         self.head = wrapped(self.head + 1);
         new
+    }
+
+    // Steps on once for each place of `words`, and writes the new row there. Both indices and the newest
+    // row stay outside the ring meanwhile, so that the loop waits for no memory.
+    pub(crate) fn forward_into(&mut self, words: &mut [Row])
+        ensures { λ _. ⌜ Turned-into (now (self .entry)) (now (self .exit)) (now (words .exit)) ⌝ }
+    {
+        let mut head = self.head;
+        let mut middle = wrapped(head + MIDDLE);
+        let mut newest = self.at(NEWEST);
+        for word in words.iter_mut() {
+            newest = recursion::step(MASK, newest, self.rows[middle], self.rows[head]);
+            self.rows[head] = newest;
+            *word = newest;
+            head = wrapped(head + 1);
+            middle = wrapped(middle + 1);
+        }
+        self.head = head;
     }
 
     // Puts the row before the oldest over the newest, which it answers.
