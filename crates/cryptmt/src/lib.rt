@@ -21,3 +21,6 @@ pub fn keystream(key: &[u8], iv: &[u8], from: u64, out: &mut [u8]) -> Result<(),
 {
     range::keystream::<WidePile, Wide>(Handover::new(Booter::new()), key, iv, from, out)
 }
+
+#[cfg(test)]
+mod tests;
