@@ -7,6 +7,7 @@ use lib.Dec.{eqb}
 use lib.ListN.{length, getD, take}
 use Rattle.std.specs.declared.result.Result.{Result}
 use Rattle.std.specs.declared.result.Result.the-variants.{Ok, Err}
+use Rattle.std.specs.Vec.{made}
 use Rattle.refusal.specs.declared.Refusal.{Refusal}
 use Rattle.mother.specs.Generators.{Words, Generator, limit}
 use Rattle.keystream.specs.declared.Filter.{Ghosts}
@@ -84,6 +85,13 @@ module _ {M F W Y : Type 0} (m : Generator M W) (f : Ghosts F W Y) where
   Goes-on n s st bs r s′ st′ bs′ =
       (ws : Words W) (p : ℕ) (old : List ℕ) → Going ws p n old s st bs → st .progress .left ≡ 0 → p + length old ≤ 2 ^ 32
       → Went-on ws p old r s′ st′ bs′ × (m .given s′ ≡ m .given s)
+
+  -- and it leaves `left` as it is, and room for what comes
+  pub record Part (n : ℕ) (s : M) (st : Stage Y) (bs : List ℕ) (r : Result ℕ Refusal) (s′ : M) (st′ : Stage Y) (bs′ : List ℕ)
+      : Type 0 where
+    pub left : st′ .progress .left ≡ st .progress .left
+    pub room : made r (λ at. Room st′ (length bs) at)
+    pub covers : Goes-on n s st bs r s′ st′ bs′
 
   -- a whole call
   abbrev pub Followed-by : Words W → ℕ → List ℕ → Result Unit₀ Refusal → M → Stage Y → List ℕ → Type 0

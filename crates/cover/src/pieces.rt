@@ -3,7 +3,7 @@ ghost use Prim.Native.Nat.{ℕ, _+_, _-_, _*_, _<_, _≤_, _^_, min};
 ghost use lib.ListN.{length, getD};
 ghost use Rattle.mother.specs.Means.{means};
 ghost use Rattle.std.specs.Vec.{made as granted};
-ghost use Rattle.cover.specs.Follow.{Room, Left-used, Goes-on, Followed};
+ghost use Rattle.cover.specs.Follow.{Room, Left-used, Goes-on, Part, Followed};
 use crate::stage::Progress;
 use crate::stage::Stage;
 use crate::steps::GROUP;
@@ -47,10 +47,8 @@ fn one_block<M: Mother, F: Filter<Word = M::Word>>(
 ) -> Result<usize, Refusal>
     requires { ⌜ Room (now stage) (length (now bytes)) at ⌝ }
     requires { ⌜ F·Filter .size ≤ length (now bytes) - at ⌝ }
-    ensures left { λ r. ⌜ now (stage .exit) .progress .left ≡ now (stage .entry) .progress .left ⌝ }
-    ensures room { λ r. ⌜ granted r (λ n. Room (now (stage .exit)) (length (now (bytes .entry))) n) ⌝ }
     ensures end { λ r. ⌜ granted r (λ n. n ≡ at + F·Filter .size) ⌝ }
-    ensures covers { λ r. ⌜ Goes-on (means M·Mother) F·Filter at (now (mother .entry)) (now (stage .entry))
+    ensures part { λ r. ⌜ Part (means M·Mother) F·Filter at (now (mother .entry)) (now (stage .entry))
         (now (bytes .entry)) r (now (mother .exit)) (now (stage .exit)) (now (bytes .exit)) ⌝ }
 {
     let size = F::size();
@@ -74,10 +72,8 @@ fn one_group<M: Mother, F: Filter<Word = M::Word>>(
     requires { ⌜ Room (now stage) (length (now bytes)) at ⌝ }
     requires { ⌜ 4 * F·Filter .size ≤ length (now bytes) - at ⌝ ∗ ⌜ 0 < now stage .progress .position ⌝ }
     requires { ⌜ length (now words) ≡ 8 ⌝ }
-    ensures left { λ r. ⌜ now (stage .exit) .progress .left ≡ now (stage .entry) .progress .left ⌝ }
-    ensures room { λ r. ⌜ granted r (λ n. Room (now (stage .exit)) (length (now (bytes .entry))) n) ⌝ }
     ensures end { λ r. ⌜ granted r (λ n. n ≡ at + 4 * F·Filter .size) ⌝ }
-    ensures covers { λ r. ⌜ Goes-on (means M·Mother) F·Filter at (now (mother .entry)) (now (stage .entry))
+    ensures part { λ r. ⌜ Part (means M·Mother) F·Filter at (now (mother .entry)) (now (stage .entry))
         (now (bytes .entry)) r (now (mother .exit)) (now (stage .exit)) (now (bytes .exit)) ⌝ }
 {
     let size = GROUP * F::size();
@@ -95,9 +91,7 @@ fn first_block<M: Mother, F: Filter<Word = M::Word>>(
     at: usize,
 ) -> Result<usize, Refusal>
     requires { ⌜ Room (now stage) (length (now bytes)) at ⌝ }
-    ensures left { λ r. ⌜ now (stage .exit) .progress .left ≡ now (stage .entry) .progress .left ⌝ }
-    ensures room { λ r. ⌜ granted r (λ n. Room (now (stage .exit)) (length (now (bytes .entry))) n) ⌝ }
-    ensures covers { λ r. ⌜ Goes-on (means M·Mother) F·Filter at (now (mother .entry)) (now (stage .entry))
+    ensures part { λ r. ⌜ Part (means M·Mother) F·Filter at (now (mother .entry)) (now (stage .entry))
         (now (bytes .entry)) r (now (mother .exit)) (now (stage .exit)) (now (bytes .exit)) ⌝ }
 {
     if stage.progress.position > 0 || bytes.len() - at < F::size() {
@@ -116,9 +110,7 @@ fn groups<M: Mother, F: Filter<Word = M::Word>>(
     start: usize,
 ) -> Result<usize, Refusal>
     requires { ⌜ Room (now stage) (length (now bytes)) start ⌝ ∗ ⌜ length (now words) ≡ 8 ⌝ }
-    ensures left { λ r. ⌜ now (stage .exit) .progress .left ≡ now (stage .entry) .progress .left ⌝ }
-    ensures room { λ r. ⌜ granted r (λ at. Room (now (stage .exit)) (length (now (bytes .entry))) at) ⌝ }
-    ensures covers { λ r. ⌜ Goes-on (means M·Mother) F·Filter start (now (mother .entry)) (now (stage .entry))
+    ensures part { λ r. ⌜ Part (means M·Mother) F·Filter start (now (mother .entry)) (now (stage .entry))
         (now (bytes .entry)) r (now (mother .exit)) (now (stage .exit)) (now (bytes .exit)) ⌝ }
 {
     let size = GROUP * F::size();
@@ -137,9 +129,7 @@ fn many_blocks<M: Mother, F: Filter<Word = M::Word>>(
     start: usize,
 ) -> Result<usize, Refusal>
     requires { ⌜ Room (now stage) (length (now bytes)) start ⌝ }
-    ensures left { λ r. ⌜ now (stage .exit) .progress .left ≡ now (stage .entry) .progress .left ⌝ }
-    ensures room { λ r. ⌜ granted r (λ at. Room (now (stage .exit)) (length (now (bytes .entry))) at) ⌝ }
-    ensures covers { λ r. ⌜ Goes-on (means M·Mother) F·Filter start (now (mother .entry)) (now (stage .entry))
+    ensures part { λ r. ⌜ Part (means M·Mother) F·Filter start (now (mother .entry)) (now (stage .entry))
         (now (bytes .entry)) r (now (mother .exit)) (now (stage .exit)) (now (bytes .exit)) ⌝ }
 {
     M::words_are_small();
@@ -155,10 +145,8 @@ fn whole_blocks<M: Mother, F: Filter<Word = M::Word>>(
     start: usize,
 ) -> Result<usize, Refusal>
     requires { ⌜ Room (now stage) (length (now bytes)) start ⌝ }
-    ensures left { λ r. ⌜ now (stage .exit) .progress .left ≡ now (stage .entry) .progress .left ⌝ }
-    ensures room { λ r. ⌜ granted r (λ at. Room (now (stage .exit)) (length (now (bytes .entry))) at) ⌝ }
     ensures rest { λ r. ⌜ granted r (λ at. length (now (bytes .entry)) - at < F·Filter .size) ⌝ }
-    ensures covers { λ r. ⌜ Goes-on (means M·Mother) F·Filter start (now (mother .entry)) (now (stage .entry))
+    ensures part { λ r. ⌜ Part (means M·Mother) F·Filter start (now (mother .entry)) (now (stage .entry))
         (now (bytes .entry)) r (now (mother .exit)) (now (stage .exit)) (now (bytes .exit)) ⌝ }
 {
     let size = F::size();
