@@ -47,7 +47,11 @@ impl Record {
     }
 
     // Passes the next bytes, `count` or as many as there are, through a cover.
-    pub fn pass(&mut self, cover: &mut WideCover, count: usize) -> Result<Piece<'_>, Refusal> {
+    pub(crate) fn pass(
+        &mut self,
+        cover: &mut WideCover,
+        count: usize,
+    ) -> Result<Piece<'_>, Refusal> {
         let from = self.passed;
         let to = from + count.min(self.bytes.len() - from);
         let first = cover.cover(&mut self.bytes[from..to])?;
@@ -59,7 +63,9 @@ impl Record {
     }
 
     // Starts over at the first byte.
-    pub fn rewind(&mut self) {
+    pub(crate) fn rewind(&mut self)
+        ensures { λ _. ⌜ now (self .exit) .passed ≡ 0 ⌝ ∗ ⌜ now (self .exit) .bytes ≡ now (self .entry) .bytes ⌝ }
+    {
         self.passed = 0;
     }
 

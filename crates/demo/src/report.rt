@@ -7,7 +7,7 @@ use std::io;
 use std::io::Write;
 
 // A line: some words, and then bytes as hex.
-pub fn hex_line(rt: &LibcRuntime, words: &str, bytes: &[u8]) -> Result<(), Fault> {
+pub(crate) fn hex_line(rt: &LibcRuntime, words: &str, bytes: &[u8]) -> Result<(), Fault> {
     let mut line = words.as_bytes().to_vec(rt.alloc())?;
     push_hex(&mut line, bytes)?;
     line.extend_from_slice(b"\n")?;
@@ -16,7 +16,7 @@ pub fn hex_line(rt: &LibcRuntime, words: &str, bytes: &[u8]) -> Result<(), Fault
 }
 
 // What a piece of the trace was covered to.
-pub fn covered(rt: &LibcRuntime, piece: Piece<'_>) -> Result<(), Fault> {
+pub(crate) fn covered(rt: &LibcRuntime, piece: Piece<'_>) -> Result<(), Fault> {
     let Piece { first, bytes } = piece;
     let count = bytes.len();
     let words = format!(rt.alloc(), "covered {count} bytes at position {first}: ")?;
@@ -24,7 +24,7 @@ pub fn covered(rt: &LibcRuntime, piece: Piece<'_>) -> Result<(), Fault> {
 }
 
 // Eight addresses to a line.
-pub fn addresses(rt: &LibcRuntime, addresses: &[u32]) -> io::Result<()> {
+pub(crate) fn addresses(rt: &LibcRuntime, addresses: &[u32]) -> io::Result<()> {
     for line in addresses.chunks(8) {
         if let [first, rest @ ..] = line {
             print!(rt, "{first:08x}")?;
@@ -38,7 +38,7 @@ pub fn addresses(rt: &LibcRuntime, addresses: &[u32]) -> io::Result<()> {
 }
 
 // How many of the addresses came back.
-pub fn came_back(rt: &LibcRuntime, count: usize, of: usize) -> io::Result<()> {
+pub(crate) fn came_back(rt: &LibcRuntime, count: usize, of: usize) -> io::Result<()> {
     if count == of {
         println!(rt, "all {count} addresses came back")
     } else {
