@@ -30,6 +30,7 @@ sequences key iv =
     }
 
 pub equations-stand : (key iv : List ℕ) → Lawful key → Lawful iv → CryptMT key iv (sequences key iv)
+unfolding output
 equations-stand key iv lk li =
     let e = sequences-stand key iv lk li in
     let ws = booter.words key iv in

@@ -26,7 +26,7 @@ abbrev pub stepped : Row → Row → Row
 stepped y x = ps3 y ⊗₃₂ x
 
 -- the output row of two memories, one after the other
-abbrev pub output : Row → Row → Row
+unfoldable pub output : Row → Row → Row
 output y y′ = (y ⊕ y >>₃₂ 16) & LOWER16 ∣ (y′ ⊕ y′ <<₃₂ 16) & UPPER16
 
 -- and its bytes, from the lower bits up

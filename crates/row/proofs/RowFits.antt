@@ -72,6 +72,7 @@ lanes-ps2 x h =
     lanes-xors (row (x .l1) (x .l0) (x .l2) (x .l3)) (shr32 11 x) (record { l3 = h .l1; l2 = h .l0; l1 = h .l2; l0 = h .l3 }) (lanes-shr32 11 x h)
 
 pub lanes-ps3 : (x : Row) → Lanes x → Lanes (ps3 x)
+unfolding ps3
 lanes-ps3 x h = lanes-xors x (shr32 1 (at0321 x)) h (lanes-shr32 1 (at0321 x) (lanes-down x h))
 
 pub lanes-unps1 : (x : Row) → Lanes x → Lanes (unps1 x)
@@ -81,9 +82,11 @@ lanes-unps1 x h =
     (lanes-xors (shr32 13 (at1032 x)) (shr32 26 (at2103 x)) (lanes-shr32 13 (at1032 x) (lanes-across x h)) (lanes-shr32 26 (at2103 x) (lanes-up x h)))
 
 lanes-undo2 : (x : Row) → Lanes x → Lanes (undo2 x)
+unfolding undo2
 lanes-undo2 x h = lanes-xors x (shr32 2 (at1032 x)) h (lanes-shr32 2 (at1032 x) (lanes-across x h))
 
 lanes-undoBy : (s : ℕ) (x : Row) → Lanes x → Lanes (undoBy s x)
+unfolding undoBy
 lanes-undoBy s x h = lanes-xors x (shr32 s x) h (lanes-shr32 s x h)
 
 pub lanes-unps3 : (x : Row) → Lanes x → Lanes (unps3 x)

@@ -45,6 +45,7 @@ rows-quotient-is z x hz hx =
 
 -- ps3 is a step of shift 1, and each step taken twice is one of twice the shift
 ps3-twice : (x : Row) → ps3 (ps3 x) ≡ undo2 x
+unfolding ps3 undo2
 ps3-twice x =
     same-row
     (step-twice (x .l3) (x .l0) (x .l1) 1)
@@ -53,6 +54,7 @@ ps3-twice x =
     (step-twice (x .l0) (x .l1) (x .l2) 1)
 
 undo2-twice : (x : Row) → undo2 (undo2 x) ≡ undoBy 4 x
+unfolding undo2 undoBy
 undo2-twice x =
     same-row
     (step-twice (x .l3) (x .l1) (x .l3) 2)
@@ -61,6 +63,7 @@ undo2-twice x =
     (step-twice (x .l0) (x .l2) (x .l0) 2)
 
 undoBy-twice : (s : ℕ) (x : Row) → undoBy s (undoBy s x) ≡ undoBy (s + s) x
+unfolding undoBy
 undoBy-twice s x =
     same-row
     (step-twice (x .l3) (x .l3) (x .l3) s)
@@ -73,6 +76,7 @@ xor-none : (a b : ℕ) → b ≡ 0 → bitXor a b ≡ a
 xor-none a b e = ap (bitXor a) e ∙ xor-zero-r a
 
 undoBy-all : (x : Row) → Lanes x → undoBy 32 x ≡ x
+unfolding undoBy
 undoBy-all x h =
     same-row
     (xor-none (x .l3) (x .l3 / 2 ^ 32) (omega arith))
@@ -147,6 +151,7 @@ steps-cross a b e f i j =
     ∙ ap (bitXor (bitXor a (b / 2 ^ i))) (sym (xor-shr e (f / 2 ^ i) j))
 
 ps3-undo2 : (x : Row) → ps3 (undo2 x) ≡ undo2 (ps3 x)
+unfolding ps3 undo2
 ps3-undo2 x =
     same-row
     (steps-cross (x .l3) (x .l0) (x .l1) (x .l2) 1 2)
@@ -155,6 +160,7 @@ ps3-undo2 x =
     (steps-cross (x .l0) (x .l1) (x .l2) (x .l3) 1 2)
 
 ps3-undoBy : (s : ℕ) (x : Row) → ps3 (undoBy s x) ≡ undoBy s (ps3 x)
+unfolding ps3 undoBy
 ps3-undoBy s x =
     same-row
     (steps-cross (x .l3) (x .l0) (x .l3) (x .l0) 1 s)

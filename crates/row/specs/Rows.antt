@@ -89,7 +89,7 @@ ps1 x = at2103 x ⊕ x >>₃₂ 13
 unfoldable pub ps2 : Row → Row
 ps2 x = at1023 x ⊕ x >>₃₂ 11
 
-abbrev pub ps3 : Row → Row
+unfoldable pub ps3 : Row → Row
 ps3 x = x ⊕ at0321 x >>₃₂ 1
 
 -- the recursion without its oldest row: (prev & mask) ⊕ (m >>64 3) ⊕ m[2][0][3][1]

@@ -8,10 +8,10 @@ unfoldable pub unps1 : Row → Row
 unps1 x = at0321 x ⊕ (at1032 x >>₃₂ 13 ⊕ at2103 x >>₃₂ 26)
 
 -- ps3 taken 2, 4, 8 and 16 times: a step of twice the shift each
-abbrev pub undo2 : Row → Row
+unfoldable pub undo2 : Row → Row
 undo2 x = x ⊕ at1032 x >>₃₂ 2
 
-abbrev pub undoBy : ℕ → Row → Row
+unfoldable pub undoBy : ℕ → Row → Row
 undoBy s x = x ⊕ x >>₃₂ s
 
 -- the row that ps3 takes to x: ps3 taken 32 times leaves every row as it is, so it is ps3 taken 31 times
