@@ -207,4 +207,14 @@ static inline void cover_bytes(struct rest *rest, block_cover *cover_blocks, voi
     }
 }
 
+/* Covers a buffer piece by piece, each as a call of its own. */
+static inline void cover_pieces(struct rest *rest, block_cover *cover_blocks, void *cipher,
+                                uint8_t *buf, size_t buf_len, size_t piece)
+{
+    for (size_t done = 0; done < buf_len; done += piece) {
+        size_t left = buf_len - done;
+        cover_bytes(rest, cover_blocks, cipher, buf + done, left < piece ? left : piece);
+    }
+}
+
 #endif
