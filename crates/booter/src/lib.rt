@@ -1,3 +1,5 @@
+#![tactic(auto)]
+
 ghost use Rattle.std.specs.Prelude.{ℕ, ◌^◌, ◌≤◌};
 ghost use Rattle.mother.specs.Generators.{Lawful};
 ghost use Rattle.booter.specs.Registers.{StepThereAndBack, StepBackAndThere};

@@ -1,3 +1,5 @@
+#![tactic(auto)]
+
 ghost use Rattle.cryptmt.specs.Wide.{WideStreams, WideIsCryptMT};
 ghost use Rattle.cryptmt.specs.Narrow.{NarrowStreams, OddStreams, NarrowIsDefined, OddIsDefined};
 

@@ -1,3 +1,5 @@
+#![tactic(auto)]
+
 use addresses::{agreeing, from_bytes, to_bytes};
 use booter::Booter;
 use cryptmt::WideCover;

@@ -1,3 +1,5 @@
+#![tactic(auto)]
+
 ghost use Rattle.std.specs.Prelude.{◌≡◌, ◌+◌, ◌*◌, ◌<◌, ◌⊎◌, [], ◌∷◌, ◌++◌, IfSome, IfOk, Some, None, Ok, Err, MatchResult};
 ghost use Rattle.digits.specs.declared.HexError.TheVariants.{NoMemory};
 ghost use Rattle.digits.specs.Digits.{nibble_of, decimal_of, hex_of, digit_of, spelled};

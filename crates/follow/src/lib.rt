@@ -1,3 +1,5 @@
+#![tactic(auto)]
+
 ghost use Rattle.mother.specs.Means.{means};
 ghost use Rattle.follow.specs.Follows.{SetsUp, GoesOn, GoesBack};
 

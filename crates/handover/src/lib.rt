@@ -1,3 +1,5 @@
+#![tactic(auto)]
+
 ghost use Rattle.std.specs.Prelude.{◌≡◌, ℕ, ◌^◌, ◌≤◌};
 ghost use Rattle.mother.specs.Means.{means};
 ghost use Rattle.handover.specs.Recursion.{later, over, FirstRow, FirstRows, LaterRows, WordsEarly, WordsLate};

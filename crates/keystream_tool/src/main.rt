@@ -1,3 +1,5 @@
+#![tactic(auto)]
+
 use query::{LONGEST, answer};
 use std::io;
 use std::io::{BufReader, Read, Write};

@@ -1,3 +1,5 @@
+#![tactic(auto)]
+
 ghost use Rattle.std.specs.Prelude.{◌^◌, ◌<◌, ◌≤◌};
 ghost use Rattle.row.specs.Rows.{lane_in};
 ghost use Rattle.mother.specs.Means.{means};

@@ -1,7 +1,7 @@
 -- Words read to a list, one by one.
-use Rattle.std.proofs.Common.{◌≡◌, ℕ, ◌+◌, ◌<◌, ◌≤◌, ◌≢◌, List, length, get_or, set, Ok, Err, sym, refl, ap, ◌∙◌, add-zero, add_assoc, arith, get_or-set_other, get_or-set_same, below_more}
+use Rattle.std.proofs.Common.{◌≡◌, ℕ, ◌+◌, ◌<◌, ◌≤◌, List, length, get_or, set, Ok, Err, sym, refl, ap, ◌∙◌, add-zero, add_assoc, arith, get_or-set_other, get_or-set_same, below_more}
 use Rattle.refusal.specs.declared.Refusal.{Refusal}
-use Rattle.mother.specs.Generators.{Generator, Next, Stays, Filled, Fills, limit}
+use Rattle.mother.specs.Generators.{Generator, Next, Filled, Fills, limit}
 
 module _ {S W : Type 0} (m : Generator S W) where
   pub filled_none : (s : S) (ws : List W) → m.sound s → Filled m s 0 s ws

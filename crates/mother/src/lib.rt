@@ -1,3 +1,5 @@
+#![tactic(auto)]
+
 ghost use Rattle.std.specs.Prelude.{◌≡◌, ℕ, List};
 ghost use Rattle.mother.specs.Generators.{Words, generator, SetUp, Next, Fills, Small};
 

@@ -1,3 +1,5 @@
+#![tactic(auto)]
+
 ghost use Rattle.std.specs.Prelude.{◌≡◌, length, IfOk};
 ghost use Rattle.query.specs.Queries.{kind_of, count_of};
 ghost use Rattle.query.specs.Parsing.{asked, Parses, malformed_by};

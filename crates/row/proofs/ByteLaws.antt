@@ -2,7 +2,6 @@
 use Rattle.std.proofs.Common.{◌≡◌, ℕ, zero, suc, ◌+◌, ◌*◌, ◌/◌, ◌%◌, ◌^◌, ◌<◌, List, [], ◌∷◌, ◌++◌, length, get_or, sym, refl, ap, ◌∙◌, arith}
 use Rattle.std.proofs.lemmas.Nat.{shr-shr}
 use Rattle.row.specs.declared.Row.{Row}
-use Rattle.row.specs.Rows.{Lanes, row}
 use Rattle.row.specs.Bytes.{lane_bytes, lane_of, lane_at, row_bytes, bytes_row, RowFromBytes, BytesFromRow}
 use Rattle.row.proofs.RowLaws.{same_row}
 

@@ -1,5 +1,5 @@
 -- The inverse of an odd lane, and the odd quotient.
-use Rattle.std.proofs.Common.{◌≡◌, ℕ, zero, suc, ◌+◌, ◌-◌, ◌*◌, ◌/◌, ◌%◌, ◌^◌, ◌<◌, ◌≤◌, max, Bool, true, false, ◌&&◌, eqb, sym, refl, ap, ◌∙◌, subst, mod-lt, mod-eq_of_lt, mul_comm, mul-one, arith, lit<, lit≤, eqb-true}
+use Rattle.std.proofs.Common.{◌≡◌, ℕ, zero, suc, ◌+◌, ◌-◌, ◌*◌, ◌/◌, ◌%◌, ◌^◌, ◌<◌, sym, refl, ap, ◌∙◌, mod-lt, mul_comm, arith, lit<}
 use native.Mathlib.Nat.{mod-add-mod}
 use lib.Bits.{bit_xor, bit_or, xor_mod, or_step}
 use Rattle.row.specs.Lanes.{plus, minus, times, ◌⊗◌, odd_factor, nearer, guess, inverse, ◌⊘◌}
@@ -47,13 +47,15 @@ inverse_is a odd =
 pub quotient_undoes : (y x : ℕ) → y < 2 ^ 32 → x < 2 ^ 32 → ((y ⊗ x) ⊘ x) ≡ y
 unfolding ◌⊘◌ ◌⊗◌
 quotient_undoes y x hy hx =
-    let a : ℕ = (2 * x + 1) % 2 ^ 32 in
+    let a : ℕ = plus (times 2 x) 1 in
     let odd : a % 2 ≡ 1 = omega arith in
     let e : 2 * y * x + y + x ≡ y * (2 * x + 1) + x = omega arith in
+    let ea : a ≡ (2 * x + 1) % 2 ^ 32 = omega arith in
     let d : minus ((2 * y * x + y + x) % 2 ^ 32) x ≡ (y * a) % 2 ^ 32 =
     ap (λ t. minus (t % 2 ^ 32) x) e
     ∙ sum_undone (2 ^ 32) (y * (2 * x + 1)) x (omega arith)
-    ∙ sym (mul_mod_r y (2 * x + 1) (2 ^ 32)) in
+    ∙ sym (mul_mod_r y (2 * x + 1) (2 ^ 32))
+    ∙ ap (λ t. (y * t) % 2 ^ 32) (sym ea) in
     ap (λ t. (t * inverse a) % 2 ^ 32) d ∙ undone (2 ^ 32) a (inverse a) y (inverse_is a odd) hy
 
 pub or_one_odd : (x : ℕ) → bit_or x 1 % 2 ≡ 1
@@ -68,24 +70,22 @@ factor_onto z x h =
     undone (2 ^ 32) (inverse (odd_factor x)) (odd_factor x) z
     (ap (λ t. t % 2 ^ 32) (mul_comm (inverse (odd_factor x)) (odd_factor x)) ∙ inverse_is (odd_factor x) (or_one_odd x)) h
 
--- twice a lane and one by wrapping steps
-pub doubled : (x : ℕ) → plus (plus x x) 1 ≡ (2 * x + 1) % 2 ^ 32
-doubled x =
-    let e : x + x + 1 ≡ 2 * x + 1 = omega arith in
-    mod-add-mod (x + x) (2 ^ 32) 1 ∙ ap (λ t. t % 2 ^ 32) e
+pub inverse_undoes : (y x : ℕ) → y < 2 ^ 32 → x < 2 ^ 32 → times (times y (bit_or x 1)) (inverse (bit_or x 1)) ≡ y
+inverse_undoes y x hy hx = factor_undone y x hy
 
 pub quotient_is : (z x : ℕ) → z < 2 ^ 32 → x < 2 ^ 32 → ((z ⊘ x) ⊗ x) ≡ z
 unfolding ◌⊘◌ ◌⊗◌
 quotient_is z x hz hx =
     let M : ℕ = 2 ^ 32 in
-    let a : ℕ = (2 * x + 1) % M in
+    let a : ℕ = plus (times 2 x) 1 in
     let j : ℕ = inverse a in
     let w : ℕ = minus z x in
     let q : ℕ = (w * j) % M in
     let odd : a % 2 ≡ 1 = omega arith in
     let one : (j * a) % M ≡ 1 = ap (λ t. t % M) (mul_comm j a) ∙ inverse_is a odd in
+    let ea : a ≡ (2 * x + 1) % M = omega arith in
     let back : (q * (2 * x + 1)) % M ≡ w =
-    sym (mul_mod_r q (2 * x + 1) M) ∙ undone M j a w one (mod-lt (z + (M - x)) (lit< tt)) in
+    sym (mul_mod_r q (2 * x + 1) M) ∙ ap (λ t. (q * t) % M) (sym ea) ∙ undone M j a w one (mod-lt (z + (M - x)) (lit< tt)) in
     let e : 2 * q * x + q + x ≡ q * (2 * x + 1) + x = multiplied q x in
     let f : z + (M - x) + x ≡ z + M = omega arith in
     ap (λ t. t % M) e
@@ -100,3 +100,6 @@ quotient_is z x hz hx =
 
     again : (z : ℕ) → z < 2 ^ 32 → (z + 2 ^ 32) % 2 ^ 32 ≡ z
     again z h = omega arith
+
+pub oprod_injective : (y y' x : ℕ) → y < 2 ^ 32 → y' < 2 ^ 32 → x < 2 ^ 32 → (y ⊗ x) ≡ (y' ⊗ x) → y ≡ y'
+oprod_injective y y' x h h' k e = sym (quotient_undoes y x h k) ∙ ap (λ z. z ⊘ x) e ∙ quotient_undoes y' x h' k

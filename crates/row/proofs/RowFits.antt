@@ -1,10 +1,10 @@
 -- Each operation gives lanes below 2 ^ 32, and a sum and a difference undo one another.
-use Rattle.std.proofs.Common.{◌≡◌, ℕ, zero, ◌+◌, ◌-◌, ◌*◌, ◌/◌, ◌%◌, ◌^◌, ◌<◌, ◌≤◌, sym, refl, ap, ◌∙◌, lt_of_le_of_lt, mod-lt, mod-eq_of_lt, arith, lit<}
+use Rattle.std.proofs.Common.{◌≡◌, ℕ, ◌+◌, ◌-◌, ◌*◌, ◌/◌, ◌%◌, ◌^◌, ◌<◌, ap, ◌∙◌, lt_of_le_of_lt, mod-lt, mod-eq_of_lt, arith, lit<}
 use native.Mathlib.Nat.{mod-add-mod}
-use lib.Bits.{bit_xor, xor_lt}
+use lib.Bits.{xor_lt}
 use Rattle.std.proofs.lemmas.Nat.{shr_le}
 use Rattle.row.specs.declared.Row.{Row}
-use Rattle.row.specs.Lanes.{plus, minus, times, ◌⊗◌, ◌⊘◌}
+use Rattle.row.specs.Lanes.{plus, minus, ◌⊗◌, ◌⊘◌}
 use Rattle.row.specs.Rows.{Lanes, row, both, ◌⊕◌, ◌>>₃₂◌, at2103, at0321, at1032, ps1, ps2, ps3}
 use Rattle.row.specs.Undone.{unps1, unps3, undo2, undo_by}
 use Rattle.row.proofs.Modular.{sum_undone}

@@ -1,9 +1,8 @@
 -- The inverses of rows.
-use Rattle.std.proofs.Common.{◌≡◌, ℕ, zero, ◌+◌, ◌-◌, ◌*◌, ◌/◌, ◌%◌, ◌^◌, ◌<◌, ◌≤◌, sym, refl, ap, ◌∙◌, subst, add_comm, arith}
+use Rattle.std.proofs.Common.{◌≡◌, ℕ, ◌+◌, ◌/◌, ◌^◌, ◌<◌, sym, ap, ◌∙◌, add_comm, arith}
 use lib.Bits.{bit_xor, xor_shr, xor_assoc, xor_self, xor_zero_l, xor_zero_r, xor_comm}
 use Rattle.std.proofs.lemmas.Nat.{shr-shr}
 use Rattle.row.specs.declared.Row.{Row}
-use Rattle.row.specs.Lanes.{◌⊗◌, ◌⊘◌}
 use Rattle.row.specs.Rows.{Lanes, row, ◌⊗₃₂◌, ◌⊘₃₂◌, ps1, ps3}
 use Rattle.row.specs.Undone.{unps1, unps3, undo2, undo_by}
 use Rattle.row.proofs.LaneLaws.{quotient_undoes, quotient_is}

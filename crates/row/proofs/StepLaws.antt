@@ -1,5 +1,5 @@
 -- A step of the recursion and its inverse.
-use Rattle.std.proofs.Common.{◌≡◌, ℕ, sym, refl, ap, ◌∙◌}
+use Rattle.std.proofs.Common.{◌≡◌, ℕ, sym, ap, ◌∙◌}
 use lib.Bits.{bit_xor, xor_assoc, xor_self, xor_zero_l}
 use Rattle.row.specs.declared.Row.{Row}
 use Rattle.row.specs.Rows.{mix_row, step_row}

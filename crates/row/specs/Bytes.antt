@@ -1,5 +1,5 @@
 -- A row as 16 bytes: lane [0] first, and the low byte of a lane first.
-use Rattle.std.specs.Prelude.{◌≡◌, ℕ, ◌+◌, ◌*◌, ◌/◌, ◌%◌, ◌^◌, ◌<◌, cond, List, [], ◌∷◌, ◌++◌, length, Some, None, Option, nat_le, slice_index}
+use Rattle.std.specs.Prelude.{◌≡◌, ℕ, ◌+◌, ◌*◌, ◌/◌, ◌%◌, ◌<◌, cond, List, [], ◌∷◌, ◌++◌, length, Some, None, Option, nat_le, slice_index}
 use Rattle.row.specs.declared.Row.{Row}
 use Rattle.row.specs.Rows.{Lanes, row}
 

@@ -1,5 +1,5 @@
 -- A lane is a number below 2 ^ 32, and these are its wrapping operations.
-use Rattle.std.specs.Prelude.{ℕ, ◌+◌, ◌-◌, ◌*◌, ◌/◌, ◌%◌, ◌^◌, ◌<◌, bit_or, bit_xor}
+use Rattle.std.specs.Prelude.{ℕ, ◌+◌, ◌-◌, ◌*◌, ◌%◌, ◌^◌, ◌<◌, bit_or, bit_xor}
 
 infixl 70 ◌⊗◌ ◌⊘◌
 abbrev pub Lane : ℕ → Type 0

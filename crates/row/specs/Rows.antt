@@ -1,5 +1,5 @@
 -- Rows of four lanes [3], [2], [1], [0], written in that order, and the operations of the cipher on them.
-use Rattle.std.specs.Prelude.{ℕ, zero, suc, ◌+◌, ◌-◌, ◌*◌, ◌/◌, ◌%◌, ◌^◌, ◌<◌, bit_and, bit_or, bit_xor}
+use Rattle.std.specs.Prelude.{ℕ, zero, suc, ◌+◌, ◌*◌, ◌/◌, ◌%◌, ◌^◌, ◌<◌, bit_and, bit_or, bit_xor}
 use Rattle.row.specs.declared.Row.{Row}
 use Rattle.row.specs.Lanes.{plus, minus, ◌⊗◌, ◌⊘◌}
 

@@ -1,3 +1,5 @@
+#![tactic(auto)]
+
 ghost use Rattle.std.specs.Prelude.{◌≡◌, ℕ, ◌+◌, ◌%◌, ◌<◌, ◌≤◌, length};
 ghost use Rattle.row.specs.Bytes.{lane_at, row_bytes, bytes_row, read_at, RowFromBytes, BytesFromRow};
 ghost use Rattle.row.specs.Rows.{◌+₃₂◌, ◌-₃₂◌, ◌⊗₃₂◌, ◌⊘₃₂◌, Lanes, lane_in, odd as odd_row, ps1, ps2, ps3};

@@ -1,3 +1,5 @@
+#![tactic(auto)]
+
 ghost use Rattle.values.specs.Values.{ValuesStand};
 
 // The worked values of the cipher are what its definitions give.

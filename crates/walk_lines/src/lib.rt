@@ -1,2 +1,4 @@
+#![tactic(auto)]
+
 mod fields;
 pub mod request;

@@ -1,3 +1,5 @@
+#![tactic(auto)]
+
 use answer::answer;
 use request::LONGEST;
 use std::io;

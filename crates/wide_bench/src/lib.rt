@@ -1,3 +1,5 @@
+#![tactic(auto)]
+
 ghost use Rattle.std.specs.Prelude.{◌≡◌};
 ghost use Rattle.mother.specs.Means.{means};
 ghost use Rattle.wide_bench.specs.Pieces.{InPieces, CoversWide};

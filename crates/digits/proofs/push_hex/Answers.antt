@@ -8,7 +8,7 @@ pub loop-b-preserved : goal.loop-b-preserved
 loop-b-preserved c =
     spelled_more (vec_items c.args.text.now) (vec_items c.loop-b.text) _ c.args.bytes.now c.loop-b.b-index
     c.loop-b-test.true c.loop-b.invariant
-    (c.in-ok-extend-from-slice.ensures.items ∙ ap (λ v. vec_items c.loop-b.text ++ v) c.hex-pair.ensures)
+    (c.in_ok-extend_from_slice.ensures.items ∙ ap (λ v. vec_items c.loop-b.text ++ v) c.hex_pair.ensures)
 
 pub returns : goal.returns
 returns c =

@@ -10,16 +10,16 @@ loop-i-init g c = on_none (means g.M.Mother) g.F.Filter c.args.mother.now c.args
 
 pub loop-i-preserved : goal.loop-i-preserved
 loop-i-preserved g c =
-    on_more (means g.M.Mother) g.F.Filter c.args.mother.now c.loop-i.mother c.step-on.new.mother
-    c.args.memory c.loop-i.y _ c.loop-i.-i c.loop-i.invariant c.in-ok-y.ensures
+    on_more (means g.M.Mother) g.F.Filter c.args.mother.now c.loop-i.mother c.step_on.new.mother
+    c.args.memory c.loop-i.y _ c.loop-i.-i c.loop-i.invariant c.in_ok-y.ensures
 
-pub returns-in-err-y : goal.returns-in-err-y
-returns-in-err-y g c =
-    let p = err_from_is_err_and c.from-residual.result c.from-residual.ensures.1 in
+pub returns-in_err-y : goal.returns-in_err-y
+returns-in_err-y g c =
+    let p = err_from_is_err_and c.from_residual.result c.from_residual.ensures.1 in
     rw p.1 (λ ws n fo.
     let low : n + c.args.words ≤ limit = omega (arith, c.place-place.ensures, fo.place) in
-    absurd (on_granted (means g.M.Mother) g.F.Filter c.args.mother.now c.loop-i.mother c.step-on.new.mother
-    c.args.memory c.loop-i.y c.loop-i.-i c.args.words _ (omega arith) c.loop-i.invariant c.in-err-y.ensures ws n fo low))
+    absurd (on_granted (means g.M.Mother) g.F.Filter c.args.mother.now c.loop-i.mother c.step_on.new.mother
+    c.args.memory c.loop-i.y c.loop-i.-i c.args.words _ (omega arith) c.loop-i.invariant c.in_err-y.ensures ws n fo low))
 
 pub returns : goal.returns
 returns g c ws n fo =

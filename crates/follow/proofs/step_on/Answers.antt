@@ -4,4 +4,4 @@ use Rattle.follow.proofs.step_on.Goals as goal
 
 pub returns : goal.returns
 returns g c =
-    word_on (means g.M.Mother) g.F.Filter _ _ _ _ _ c.in-ok-word.ensures c.step.ensures
+    word_on (means g.M.Mother) g.F.Filter _ _ _ _ _ c.in_ok-word.ensures c.step.ensures

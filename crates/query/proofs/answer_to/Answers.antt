@@ -8,12 +8,12 @@ use Rattle.query.proofs.answer_to.Goals as goal
 pub returns-in-Ok : goal.returns-in-Ok
 returns-in-Ok c =
     let out = c.stream.new.out in
-    let spare = drop (length out) c.in-ok-bytes.bytes.items in
-    let long : length out ≡ c.in-ok-bytes.bytes.len = search rules in
-    granted_text (asked c.args.query.now) (vec_items c.push-hex.new.text) (vec_items c.new-text.result)
+    let spare = drop (length out) c.in_ok-bytes.bytes.items in
+    let long : length out ≡ c.in_ok-bytes.bytes.len = search rules in
+    granted_text (asked c.args.query.now) (vec_items c.push_hex.new.text) (vec_items c.new-text.result)
     c.deref.result.now out c.in-Ok.ensures.0 c.in-Ok.ensures.1
-    (c.deref.ensures.value ∙ take_at out spare c.in-ok-bytes.bytes.len long)
-    c.new-text.ensures.items c.in-ok-push-hex.ensures
+    (c.deref.ensures.value ∙ take_at out spare c.in_ok-bytes.bytes.len long)
+    c.new-text.ensures.items c.in_ok-push_hex.ensures
 
 pub returns : goal.returns
 returns c =

@@ -18,7 +18,7 @@ loop-at-preserved g c =
       rest_more at n old bs c.cover.new.bytes c.loop-at.auto.bytes within long c.loop-at.invariant.1,
       λ ws p ready low.
           let here = c.loop-at.invariant.2 ws p ready low in
-          let next = c.in-ok-cover.ensures.1 ws (p + at) here.1 in
+          let next = c.in_ok-cover.ensures.1 ws (p + at) here.1 in
           let e : p + at + length (take (at + n - at) (drop at bs)) ≡ p + (at + n) = omega (arith, part) in (
             front_more at n old bs c.cover.new.bytes c.loop-at.auto.bytes within long c.loop-at.invariant.1 (byte_at g.F.Filter ws) p here.0 next.2,
             subst (Ready (means g.M.Mother) g.F.Filter c.cover.new.self ws) e next.3,

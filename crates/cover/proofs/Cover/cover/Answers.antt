@@ -14,6 +14,6 @@ returns g c = (
       let S : Option (Stage g.row.F-Memory.Denot) → Type 0 = λ o. Staged (means g.M.Mother) g.F.Filter c.args.self.now.mother o ws p in
       let at = subst S c.in-Some.is ready in
       let low : p + length bytes ≤ 2 ^ 32 = omega (arith, at.position) in
-      let all = c.in-ok-follow.ensures ws p at low in
+      let all = c.in_ok-follow.ensures ws p at low in
       (low, at.position, all_covered (byte_at g.F.Filter ws) p bytes c.follow.new.bytes all.0.changed, all.0.at, all.1),
 )

@@ -4,17 +4,17 @@ use Rattle.mother.specs.Means.{means}
 use Rattle.cover.proofs.Going.{no_refusal, goes_on}
 use Rattle.cover.proofs.pieces.one_block.Goals as goal
 
-pub returns-in-err-made : goal.returns-in-err-made
-returns-in-err-made g c =
+pub returns-in_err-made : goal.returns-in_err-made
+returns-in_err-made g c =
     record {
-      end = IfOk-from_err c.from-residual.result _ c.from-residual.ensures.0;
+      end = IfOk-from_err c.from_residual.result _ c.from_residual.ensures.0;
       part = record {
         left = refl;
-        room = IfOk-from_err c.from-residual.result _ c.from-residual.ensures.0;
+        room = IfOk-from_err c.from_residual.result _ c.from_residual.ensures.0;
         covers = λ ws p old go none low.
             absurd (no_refusal (means g.M.Mother) g.F.Filter g.met.F.Filter.some ws p c.args.at old c.args.bytes.now
-            c.args.mother.now c.make-block.new.mother c.args.stage.now c.in-err-made.field-0.0
-            go none (omega arith) low c.in-err-made.ensures);
+            c.args.mother.now c.make_block.new.mother c.args.stage.now c.in_err-made.field-0.0
+            go none (omega arith) low c.in_err-made.ensures);
       };
     }
 
@@ -29,9 +29,9 @@ returns g c =
         room = search rules;
         covers = λ ws p old go none low.
             goes_on (means g.M.Mother) g.F.Filter g.met.F.Filter.some ws p c.args.at c.size-size.result _ refl old
-            c.args.bytes.now c.xor-part.new.bytes c.args.mother.now c.make-block.new.mother
-            c.args.stage.now _ c.in-ok-made.made go none (omega arith) low one
-            c.in-ok-made.ensures c.xor-part.ensures refl refl (ap (λ t. t + c.size-size.result) none ∙ whole)
+            c.args.bytes.now c.xor_part.new.bytes c.args.mother.now c.make_block.new.mother
+            c.args.stage.now _ c.in_ok-made.made go none (omega arith) low one
+            c.in_ok-made.ensures c.xor_part.ensures refl refl (ap (λ t. t + c.size-size.result) none ∙ whole)
             (λ h. absurd (omega (arith, none)));
       };
     }

@@ -11,5 +11,5 @@ returns g c =
       position = refl;
       covers = λ s ws p at.
           left_used (means g.M.Mother) g.F.Filter g.met.F.Filter.some s ws p _ _ _ _ _ at
-          (omega (arith, c.min-count.ensures)) refl refl refl refl c.xor-part.ensures;
+          (omega (arith, c.min-count.ensures)) refl refl refl refl c.xor_part.ensures;
     }

@@ -5,22 +5,22 @@ use Rattle.keystream.specs.Keystreams.{byte_at}
 use Rattle.cover.proofs.Bytes.{streamed_over, none_streamed}
 use Rattle.cover.proofs.range.keystream.Goals as goal
 
-pub returns-then-is-empty : goal.returns-then-is-empty
-returns-then-is-empty g c =
-    let set = c.in-ok-set-up.ensures in
+pub returns-then-is_empty : goal.returns-then-is_empty
+returns-then-is_empty g c =
+    let set = c.in_ok-set_up.ensures in
     let low : c.args.from + length c.args.out.now ≤ 2 ^ 32 = omega arith in
-    (set.0, set.1, low, none_streamed _ c.args.from c.args.out.now (true-eqb _ 0 c.if-is-empty.ensures))
+    (set.0, set.1, low, none_streamed _ c.args.from c.args.out.now (true-eqb _ 0 c.if-is_empty.ensures))
 
 pub returns : goal.returns
 returns g c =
     let key = c.args.key.now in
     let iv = c.args.iv.now in
-    let ws = g.M.Mother.given c.new-cover.result.mother key iv in
-    let set = c.in-ok-set-up.ensures in
+    let ws = g.M.Mother.given c.new_cover.result.mother key iv in
+    let set = c.in_ok-set_up.ensures in
     let low : c.args.from + length c.args.out.now ≤ 2 ^ 32 = omega arith in
-    let ready = c.in-ok-pass.ensures ws 0 set.2 (omega arith) in
-    let out = c.in-ok-cover.ensures.1 ws (0 + c.args.from) ready in
-    let same = ap (λ s. byte_at g.F.Filter (g.M.Mother.given s key iv)) c.new-cover.ensures.mother in (
+    let ready = c.in_ok-pass.ensures ws 0 set.2 (omega arith) in
+    let out = c.in_ok-cover.ensures.1 ws (0 + c.args.from) ready in
+    let same = ap (λ s. byte_at g.F.Filter (g.M.Mother.given s key iv)) c.new_cover.ensures.mother in (
       set.0,
       set.1,
       low,

@@ -9,7 +9,7 @@ loop-left-preserved g c = (
   λ ws p ready low.
       let done : ℕ = c.args.count - c.loop-left.left in
       let here = c.loop-left.invariant.1 ws p ready low in
-      let next = c.in-ok-pass-piece.ensures ws (p + done) here (omega arith) in
+      let next = c.in_ok-pass_piece.ensures ws (p + done) here (omega arith) in
       let e : p + done + c.min-n.result ≡ p + (c.args.count - (c.loop-left.left - c.min-n.result)) = omega arith in
-      subst (Ready (means g.M.Mother) g.F.Filter c.pass-piece.new.cover ws) e next,
+      subst (Ready (means g.M.Mother) g.F.Filter c.pass_piece.new.cover ws) e next,
 )

@@ -4,4 +4,4 @@ use Rattle.cover.proofs.steps.advance.Goals as goal
 
 pub returns : goal.returns
 returns g c =
-    advanced (means g.M.Mother) g.F.Filter _ _ _ _ _ c.in-ok-word.ensures c.step.ensures
+    advanced (means g.M.Mother) g.F.Filter _ _ _ _ _ c.in_ok-word.ensures c.step.ensures

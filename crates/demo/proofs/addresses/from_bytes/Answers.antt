@@ -6,17 +6,17 @@ use Rattle.demo.proofs.addresses.from_bytes.Goals as goal
 
 pub loop-four-preserved : goal.loop-four-preserved
 loop-four-preserved c =
-    fours_more (vec_items c.loop-four.addresses) _ c.as-chunks.result.0.now c.loop-four.four-index
-    c.from-le-bytes.result
-    c.loop-four-test.true c.loop-four.invariant c.in-ok-push.ensures.items c.from-le-bytes.ensures
+    fours_more (vec_items c.loop-four.addresses) _ c.as_chunks.result.0.now c.loop-four.four-index
+    c.from_le_bytes.result
+    c.loop-four-test.true c.loop-four.invariant c.in_ok-push.ensures.items c.from_le_bytes.ensures
 
 pub returns : goal.returns
 returns c =
     let bytes = c.args.bytes.now in
     let e : vec_items c.loop-four.addresses ≡ addresses_of c.args.bytes.now =
     c.loop-four.invariant
-    ∙ ap (map of_four) (take_all c.loop-four.four-index c.as-chunks.result.0.now c.loop-four-test.false)
-    ∙ ap (map of_four) c.as-chunks.ensures.front
+    ∙ ap (map of_four) (take_all c.loop-four.four-index c.as_chunks.result.0.now c.loop-four-test.false)
+    ∙ ap (map of_four) c.as_chunks.ensures.front
     ∙ of_fours bytes in
     record {
       addresses = e;

@@ -8,8 +8,8 @@ pub loop-a-preserved : goal.loop-a-preserved
 loop-a-preserved c =
     bytes_more (vec_items c.loop-a.bytes) _ c.args.addresses.now c.loop-a.a-index
     c.loop-a-test.true c.loop-a.invariant
-    (c.in-ok-extend-from-slice.ensures.items
-    ∙ ap (λ v. vec_items c.loop-a.bytes ++ v) c.to-le-bytes.ensures)
+    (c.in_ok-extend_from_slice.ensures.items
+    ∙ ap (λ v. vec_items c.loop-a.bytes ++ v) c.to_le_bytes.ensures)
 
 pub returns : goal.returns
 returns c =

@@ -8,7 +8,7 @@ use Rattle.handover.proofs.HandoverMother.fill.Goals as goal
 pub loop-word-preserved : goal.loop-word-preserved
 loop-word-preserved g c sound =
     filled_more (handed (means g.M.Mother)) c.args.self.now c.loop-word.word-index c.loop-word.self c.next.new.self
-    c.loop-word.words _ (omega arith) (c.loop-word.invariant sound) c.in-ok-word.ensures
+    c.loop-word.words _ (omega arith) (c.loop-word.invariant sound) c.in_ok-word.ensures
 
 pub returns-then-self-lt-PASSED-ON : goal.returns-then-self-lt-PASSED-ON
 returns-then-self-lt-PASSED-ON g c sound =

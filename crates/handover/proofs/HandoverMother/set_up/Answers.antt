@@ -9,16 +9,16 @@ returns g c =
     let s = c.args.self.now in
     let key = c.args.key.now in
     let iv = c.args.iv.now in
-    let e = c.in-ok-start.ensures in
+    let e = c.in_ok-start.ensures in
     let f = e.3 in (
       e.0,
       e.1,
       e.2,
       record {
         start = f.start;
-        word = word_over m s.below c.set-up.new.self key iv f;
-        given = given_over m s.below c.set-up.new.self key iv f;
+        word = word_over m s.below c.set_up.new.self key iv f;
+        given = given_over m s.below c.set_up.new.self key iv f;
         place = refl {a = 0};
-        sound = joined_over m s.below c.set-up.new.self key iv f s.ring;
+        sound = joined_over m s.below c.set_up.new.self key iv f s.ring;
       },
     )

@@ -1,4 +1,4 @@
-use Rattle.std.proofs.Common.{◌≡◌, ◌+◌, ◌≤◌, length, ap, ◌∙◌, arith}
+use Rattle.std.proofs.Common.{◌+◌, ◌≤◌, length, arith}
 use Rattle.std.proofs.lemmas.Result.{err_from_is_err_and}
 use Rattle.mother.specs.Generators.{Generator, generator, limit}
 use Rattle.mother.proofs.Filling.{filled_none, filled_more, filled_all, not_refused}
@@ -11,18 +11,18 @@ means g = generator g.Self.Mother.start g.Self.Mother.word g.Self.Mother.place g
 pub loop-word-init : goal.loop-word-init
 loop-word-init g c sound = filled_none (means g) c.args.self.now c.args.words.now sound
 
-pub returns-in-err-word : goal.returns-in-err-word
-returns-in-err-word g c =
-    let p = err_from_is_err_and c.from-residual.result c.from-residual.ensures.1 in
+pub returns-in_err-word : goal.returns-in_err-word
+returns-in_err-word g c =
+    let p = err_from_is_err_and c.from_residual.result c.from_residual.ensures.1 in
     rw p.1 (λ sound.
     let low : g.Self.Mother.place c.args.self.now + length c.args.words.now ≤ limit = omega (arith, c.place-place.ensures) in
     absurd (not_refused (means g) c.args.self.now c.loop-word.word-index (length c.args.words.now) c.loop-word.self c.next.new.self
-    c.loop-word.words _ (omega arith) low (c.loop-word.invariant sound) c.in-err-word.ensures))
+    c.loop-word.words _ (omega arith) low (c.loop-word.invariant sound) c.in_err-word.ensures))
 
 pub loop-word-preserved : goal.loop-word-preserved
 loop-word-preserved g c sound =
     filled_more (means g) c.args.self.now c.loop-word.word-index c.loop-word.self c.next.new.self c.loop-word.words _
-    (omega arith) (c.loop-word.invariant sound) c.in-ok-word.ensures
+    (omega arith) (c.loop-word.invariant sound) c.in_ok-word.ensures
 
 pub returns : goal.returns
 returns g c sound =

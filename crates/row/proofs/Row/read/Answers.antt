@@ -9,5 +9,5 @@ returns c =
     let bs = c.args.bytes.now in
     let at = c.args.at in
     let t : leb (at + 16) (length bs) ≡ true = le-leb (at + 16) (length bs) (omega arith) in
-    ap Some (same_row c.lane-at-4.ensures c.lane-at-3.ensures c.lane-at-2.ensures c.lane-at.ensures)
+    ap Some (same_row c.lane_at-4.ensures c.lane_at-3.ensures c.lane_at-2.ensures c.lane_at.ensures)
     ∙ ap (λ b. cond b (Some (row_at bs at)) None) (sym t)

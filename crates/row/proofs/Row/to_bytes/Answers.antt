@@ -5,6 +5,6 @@ use Rattle.row.proofs.Row.to_bytes.Goals as goal
 
 pub returns : goal.returns
 returns c =
-    let e = laid _ _ _ _ c.args.self c.to-le-bytes-a.ensures c.to-le-bytes-b.ensures c.to-le-bytes-c.ensures
-    c.to-le-bytes-d.ensures in
-    record { is = e; undone = ap bytes_row e ∙ row_from_bytes c.args.self (omega (arith, c.well-formed)) }
+    let e = laid _ _ _ _ c.args.self c.to_le_bytes-a.ensures c.to_le_bytes-b.ensures c.to_le_bytes-c.ensures
+    c.to_le_bytes-d.ensures in
+    record { is = e; undone = ap bytes_row e ∙ row_from_bytes c.args.self (omega (arith, c.well_formed)) }

@@ -9,4 +9,5 @@ pub returns : goal.returns
 unfolding unps1
 returns c =
     let x = c.args.self in
-    record { is = refl; undoes = undoes_by Lanes ps1 unps1 x _ refl (ps1_onto x (omega (arith, c.well-formed))) ps1_undone }
+    let u = undoes_by Lanes ps1 unps1 x _ refl (ps1_onto x (omega (arith, c.well_formed))) ps1_undone in
+    record { is = refl; solves = u.solves; undoes = u }

@@ -13,6 +13,7 @@ steps x a b c d e p q r s t = cc
 pub returns : goal.returns
 returns c =
     let x = c.args.self in
-    let e = steps x _ _ _ _ _ c.perm-shift3.ensures c.undo-two.ensures c.undo-by.ensures
-    c.undo-by-2.ensures c.undo-by-3.ensures in
-    record { is = e; undoes = undoes_by Lanes ps3 unps3 x _ e (ps3_onto x (omega (arith, c.well-formed))) ps3_undone }
+    let e = steps x _ _ _ _ _ c.perm_shift3.ensures c.undo_two.ensures c.undo_by.ensures
+    c.undo_by-2.ensures c.undo_by-3.ensures in
+    let u = undoes_by Lanes ps3 unps3 x _ e (ps3_onto x (omega (arith, c.well_formed))) ps3_undone in
+    record { is = e; solves = u.solves; undoes = u }

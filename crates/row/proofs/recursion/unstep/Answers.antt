@@ -14,8 +14,6 @@ pub returns : goal.returns
 returns c =
     let a = c.args in
     let e = made a.mask a.new a.prev a.m _ c.mix-a.ensures in
-    record {
-      is = e;
-      undoes = undoes_by Lanes (step_row a.mask a.prev a.m) (λ n. unstep_row a.mask n a.prev a.m) a.new _ e
-          (undone_stepped a.mask a.new a.prev a.m) (λ y h. step_undone a.mask a.prev a.m y);
-    }
+    let u = undoes_by Lanes (step_row a.mask a.prev a.m) (λ n. unstep_row a.mask n a.prev a.m) a.new _ e
+    (undone_stepped a.mask a.new a.prev a.m) (λ y h. step_undone a.mask a.prev a.m y) in
+    record { is = e; solves = u.solves; undoes = u }

@@ -6,5 +6,5 @@ pub returns : goal.returns
 returns c =
     let key = c.args.key.now in
     let iv = c.args.iv.now in
-    let begun = c.in-ok-first.ensures in
+    let begun = c.in_ok-first.ensures in
     told_on _ _ key iv (wide_words key iv) c.args.words begun.0 begun.1 _ _ _ c.on.result begun.3 c.on.ensures

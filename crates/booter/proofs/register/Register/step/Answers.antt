@@ -11,6 +11,6 @@ returns c =
     let s = held r in
     let p = c.output-output.ensures ∙ sym (step_output H s) in
     let t = c.turned-accumulator.ensures ∙ sym (step_turned H s) in
-    let f = step_fed H s _ _ _ _ p t c.perm-shift1.ensures c.wrapping-sub-fed.ensures in
+    let f = step_fed H s _ _ _ _ p t c.perm_shift1.ensures c.wrapping_sub-fed.ensures in
     let e : Stepped r _ _ = record { height = refl; first = p; second = f; moved = step_moved H s _ _ _ f c.wrapped-self.ensures.is t } in
     record { pair = e; word = word_at _ _ _ e }

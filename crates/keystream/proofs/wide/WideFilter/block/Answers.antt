@@ -9,4 +9,4 @@ unfolding row_bytes
 all x = refl
 
 pub returns : goal.returns
-returns c = ap (take 16) c.to-bytes.ensures.is ∙ all _ ∙ ap row_bytes c.output_row.ensures
+returns c = ap (take 16) c.to_bytes.ensures.is ∙ all _ ∙ ap row_bytes c.output_row.ensures

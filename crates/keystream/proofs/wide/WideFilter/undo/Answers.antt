@@ -6,4 +6,4 @@ use Rattle.keystream.proofs.wide.WideFilter.undo.Goals as goal
 -- the quotient is the perm-shift of the memory before, and no other row has that perm-shift
 pub returns : goal.returns
 returns c y h e =
-    c.undo-perm-shift3.ensures.undoes.only y h (sym (c.odd-quotient.ensures.undoes.only (ps3 y) (lanes_ps3 y h) e))
+    c.undo_perm_shift3.ensures.undoes.only y h (sym (c.odd_quotient.ensures.undoes.only (ps3 y) (lanes_ps3 y h) e))
