@@ -1,5 +1,5 @@
 -- The register that a key and an IV give, and what it comes to by the idle steps.
-use Rattle.std.proofs.Common.{◌≡◌, ℕ, zero, suc, ◌+◌, ◌-◌, ◌*◌, ◌/◌, ◌%◌, ◌^◌, ◌<◌, ◌≤◌, ◌≢◌, ◌⊎◌, List, length, get_or, set, replicate, sym, refl, ap, ◌∙◌, subst, inl, inr, add-one, arith, lit<, lit≤}
+use Rattle.std.proofs.Common.{◌≡◌, ℕ, zero, suc, ◌+◌, ◌-◌, ◌*◌, ◌<◌, ◌≤◌, ◌≢◌, List, length, get_or, set, replicate, sym, refl, ap, ◌∙◌, subst, inl, inr, add-one, arith, lit<, lit≤}
 use mathlib.Core.Path.{fun_ext}
 use Rattle.std.proofs.lemmas.Bool.{cond-true, cond-false, lt-ltb, le-ltb, cases_lt}
 use Rattle.std.proofs.lemmas.List.{get_or-set_same, get_or-set_other, length-set, length-replicate, get_or-replicate}
@@ -7,11 +7,11 @@ use Rattle.row.specs.declared.Row.{Row}
 use Rattle.row.specs.Lanes.{plus, ◌⊗◌}
 use Rattle.row.specs.Rows.{Lanes, row, zeros, both, odd, ps1, ps2}
 use Rattle.row.specs.Bytes.{row_at}
-use Rattle.mother.specs.Generators.{Words, Lawful}
+use Rattle.mother.specs.Generators.{Lawful}
 use Rattle.booter.specs.declared.register.Register.{Register}
-use Rattle.booter.specs.Registers.{State, state, wrap, kth, output, turned, fed, onward, ahead, behind, x_from, a_from, o_from, InRange, Sound}
-use Rattle.booter.specs.Loading.{count, height, once, twice, filled, constant, added, loaded}
-use Rattle.booter.specs.Sequences.{x, a, o, words, Equations, SequencesStand}
+use Rattle.booter.specs.Registers.{State, state, wrap, kth, output, turned, fed, onward, ahead, x_from, a_from, o_from, InRange, Sound}
+use Rattle.booter.specs.Loading.{count, height, once, twice, filled, constant, loaded}
+use Rattle.booter.specs.Sequences.{x, a, o, words, SequencesStand}
 use Rattle.booter.specs.Calls.{held, Loaded, Idled, Sane, start_from, word_from}
 use Rattle.booter.proofs.Turns.{same_state, wrap_low, wrap_high, wrap_below}
 use Rattle.booter.proofs.Rows.{kth_ahead, first_rows, first_turn_at, later_turns_at, later_rows_at, outputs, ahead_more, sound_idle}

@@ -1,10 +1,9 @@
 -- The equations of the sequences, and steps on after steps back.
-use Rattle.std.proofs.Common.{◌≡◌, ℕ, zero, suc, ◌+◌, ◌-◌, ◌*◌, ◌^◌, ◌<◌, ◌≤◌, sym, refl, ap, ◌∙◌, subst, add-zero, add-suc, add-one, arith}
-use Rattle.row.specs.declared.Row.{Row}
+use Rattle.std.proofs.Common.{◌≡◌, ℕ, zero, suc, ◌+◌, ◌-◌, ◌<◌, ◌≤◌, sym, refl, ap, ◌∙◌, subst, add-zero, add-suc, add-one, arith}
 use Rattle.row.specs.Lanes.{plus, minus, ◌⊗◌}
 use Rattle.row.specs.Rows.{Lanes, both, ps1, ps2}
 use Rattle.booter.specs.Registers.{State, kth, output, turned, fed, onward, output_before, backward, InRange, Sound, ahead, behind, x_from, a_from, o_from}
-use Rattle.booter.proofs.Turns.{range_onward, kth_onward, last_onward, sound_onward, sound_backward, lanes_fed, lanes_turned, step_there_and_back, step_back_and_there}
+use Rattle.booter.proofs.Turns.{range_onward, kth_onward, last_onward, sound_backward, lanes_fed, lanes_turned, step_there_and_back, step_back_and_there}
 
 pub range_ahead : (s : ℕ) (c : State) → InRange s c → (n : ℕ) → InRange s (ahead s n c)
 range_ahead s c k zero = k

@@ -1,5 +1,5 @@
 -- The register before step 0, from a key and an IV: the rows of the IV, the key, the IV and the key.
-use Rattle.std.specs.Prelude.{ℕ, zero, suc, ◌+◌, ◌-◌, ◌*◌, ◌/◌, cond, List, length, set, replicate, nat_lt, slice_index_or, slice_set}
+use Rattle.std.specs.Prelude.{ℕ, zero, suc, ◌+◌, ◌-◌, ◌*◌, ◌/◌, cond, List, length, replicate, nat_lt, slice_index_or, slice_set}
 use Rattle.row.specs.declared.Row.{Row}
 use Rattle.row.specs.Rows.{row, zeros, ◌+₃₂◌, odd}
 use Rattle.row.specs.Bytes.{row_at}

@@ -1,9 +1,8 @@
 -- What the ring holds, from place to place.
-use Rattle.std.proofs.Common.{◌≡◌, ℕ, zero, suc, ◌+◌, ◌-◌, ◌<◌, ◌≤◌, List, length, get_or, set, sym, refl, ap, ◌∙◌, subst, arith}
-use Rattle.std.proofs.lemmas.List.{length-set}
+use Rattle.std.proofs.Common.{◌≡◌, ℕ, ◌+◌, ◌-◌, ◌<◌, ◌≤◌, List, length, set, sym, ap, ◌∙◌, subst, arith}
 use Rattle.row.specs.declared.Row.{Row}
 use Rattle.handover.specs.Recursion.{marked, x}
-use Rattle.handover.specs.Rings.{wrap, kth, newer, older, onwards, backwards, Kept, HeldAt}
+use Rattle.handover.specs.Rings.{wrap, kth, newer, onwards, backwards, Kept, HeldAt}
 use Rattle.handover.proofs.Rows.{first_row, first_rows}
 use Rattle.handover.proofs.Turns.{kept_onwards, kept_backwards, kept_more, kept_fewer}
 

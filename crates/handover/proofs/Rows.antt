@@ -1,9 +1,9 @@
 -- The equations of the recursion.
-use Rattle.std.proofs.Common.{◌≡◌, ℕ, zero, suc, ◌+◌, ◌-◌, ◌<◌, ◌≤◌, sym, refl, ap, ◌∙◌, add-zero, add-suc, add_comm, suc-add, zero-add, add-one, one-add, arith}
+use Rattle.std.proofs.Common.{◌≡◌, ℕ, zero, suc, ◌+◌, ◌<◌, sym, refl, ap, ◌∙◌, add-zero, add_comm, zero-add, arith}
 use Rattle.std.proofs.lemmas.Bool.{cond-true, cond-false, lt-ltb, le-ltb}
 use Rattle.row.specs.declared.Row.{Row}
 use Rattle.row.specs.Rows.{row, zeros, step_row, mix_row, ◌>>₆₄◌}
-use Rattle.handover.specs.Recursion.{mask, marked, seed, window, x, FirstRow, FirstRows, LaterRows, WordsEarly, WordsLate}
+use Rattle.handover.specs.Recursion.{mask, window, x, FirstRow, FirstRows, LaterRows, WordsEarly, WordsLate}
 
 pub window_shifts : (w : ℕ → Row) (j k : ℕ) → k < 155 → window w (suc j) k ≡ window w j (suc k)
 unfolding window

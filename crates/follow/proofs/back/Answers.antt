@@ -10,7 +10,7 @@ loop-i-init g c = back_none (means g.M.Mother) g.F.Filter c.args.mother.now c.ar
 pub loop-i-preserved : goal.loop-i-preserved
 loop-i-preserved g c =
     back_more (means g.M.Mother) g.F.Filter c.args.mother.now c.loop-i.mother c.step_back.new.mother
-    c.args.memory c.loop-i.y _ c.loop-i.-i c.loop-i.invariant c.in_ok-y.ensures
+    c.args.memory c.loop-i.y _ c.loop-i._i c.loop-i.invariant c.in_ok-y.ensures
 
 pub returns-in_err-y : goal.returns-in_err-y
 returns-in_err-y g c =
@@ -18,10 +18,10 @@ returns-in_err-y g c =
     rw p.1 (λ ws n begins fo.
     let low : c.args.words ≤ n = omega (arith, c.place.ensures, fo.place) in
     absurd (back_granted (means g.M.Mother) g.F.Filter c.args.mother.now c.loop-i.mother c.step_back.new.mother
-    c.args.memory c.loop-i.y c.loop-i.-i c.args.words _ (omega arith) c.loop-i.invariant c.in_err-y.ensures ws n begins fo low))
+    c.args.memory c.loop-i.y c.loop-i._i c.args.words _ (omega arith) c.loop-i.invariant c.in_err-y.ensures ws n begins fo low))
 
 pub returns : goal.returns
 returns g c ws n begins fo =
     let low : c.args.words ≤ n = omega (arith, c.place.ensures, fo.place) in
     back_all (means g.M.Mother) g.F.Filter c.args.mother.now c.loop-i.mother c.args.memory c.loop-i.y
-    c.loop-i.-i c.args.words (omega arith) c.loop-i.invariant ws n begins fo low
+    c.loop-i._i c.args.words (omega arith) c.loop-i.invariant ws n begins fo low

@@ -11,7 +11,7 @@ loop-i-init g c = on_none (means g.M.Mother) g.F.Filter c.args.mother.now c.args
 pub loop-i-preserved : goal.loop-i-preserved
 loop-i-preserved g c =
     on_more (means g.M.Mother) g.F.Filter c.args.mother.now c.loop-i.mother c.step_on.new.mother
-    c.args.memory c.loop-i.y _ c.loop-i.-i c.loop-i.invariant c.in_ok-y.ensures
+    c.args.memory c.loop-i.y _ c.loop-i._i c.loop-i.invariant c.in_ok-y.ensures
 
 pub returns-in_err-y : goal.returns-in_err-y
 returns-in_err-y g c =
@@ -19,10 +19,10 @@ returns-in_err-y g c =
     rw p.1 (λ ws n fo.
     let low : n + c.args.words ≤ limit = omega (arith, c.place-place.ensures, fo.place) in
     absurd (on_granted (means g.M.Mother) g.F.Filter c.args.mother.now c.loop-i.mother c.step_on.new.mother
-    c.args.memory c.loop-i.y c.loop-i.-i c.args.words _ (omega arith) c.loop-i.invariant c.in_err-y.ensures ws n fo low))
+    c.args.memory c.loop-i.y c.loop-i._i c.args.words _ (omega arith) c.loop-i.invariant c.in_err-y.ensures ws n fo low))
 
 pub returns : goal.returns
 returns g c ws n fo =
     let low : n + c.args.words ≤ limit = omega (arith, c.place-place.ensures, fo.place) in
     on_all (means g.M.Mother) g.F.Filter c.args.mother.now c.loop-i.mother c.args.memory c.loop-i.y
-    c.loop-i.-i c.args.words (omega arith) c.loop-i.invariant ws n fo low
+    c.loop-i._i c.args.words (omega arith) c.loop-i.invariant ws n fo low

@@ -7,4 +7,4 @@ abbrev pub invariant-loop-i : goal.invariant-loop-i
 invariant-loop-i g l =
     let n = g.M.Mother.place l.initial.mother in
     g.M.Mother.sound l.initial.mother → l.place < n
-    → Went (means g.M.Mother) l.initial.mother l.mother (n - (l.-i - (l.place + 1)))
+    → Went (means g.M.Mother) l.initial.mother l.mother (n - (l._i - (l.place + 1)))

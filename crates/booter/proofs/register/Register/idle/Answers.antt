@@ -6,4 +6,4 @@ pub loop-i-preserved : goal.loop-i-preserved
 loop-i-preserved c =
     let e = c.step.ensures.pair in
     let v = c.loop-i.invariant in
-    (e.height ∙ v.0, ahead_one _ _ c.loop-i.-i _ _ _ v.0 v.1 e.moved)
+    (e.height ∙ v.0, ahead_one _ _ c.loop-i._i _ _ _ v.0 v.1 e.moved)

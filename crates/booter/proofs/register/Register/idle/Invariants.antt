@@ -6,4 +6,4 @@ use Rattle.booter.proofs.register.Register.idle.Given as goal
 abbrev pub invariant-loop-i : goal.invariant-loop-i
 invariant-loop-i l =
     (l.self.height ≡ l.initial.self.height)
-    × (held l.self ≡ ahead l.initial.self.height l.-i (held l.initial.self))
+    × (held l.self ≡ ahead l.initial.self.height l._i (held l.initial.self))

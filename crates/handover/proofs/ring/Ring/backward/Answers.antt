@@ -1,4 +1,4 @@
-use Rattle.std.proofs.Common.{◌≡◌, ◌+◌, set, ap, ◌∙◌}
+use Rattle.std.proofs.Common.{◌+◌, set, ap, ◌∙◌}
 use Rattle.handover.specs.Rings.{wrap}
 use Rattle.handover.specs.Calls.{TurnedBack}
 use Rattle.handover.proofs.Moves.{goes_back}

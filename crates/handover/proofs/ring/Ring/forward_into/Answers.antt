@@ -1,4 +1,4 @@
-use Rattle.std.proofs.Common.{◌≡◌, sym, refl, ap, ◌∙◌, arith}
+use Rattle.std.proofs.Common.{arith}
 use Rattle.handover.proofs.Into.{turning_none, turning_next, turned_into}
 use Rattle.handover.proofs.ring.Ring.forward_into.Goals as goal
 

@@ -1,4 +1,4 @@
-use Rattle.std.proofs.Common.{◌≡◌, set, refl, ap}
+use Rattle.std.proofs.Common.{set, refl, ap}
 use Rattle.handover.specs.Calls.{Put}
 use Rattle.handover.proofs.Moves.{put_next}
 use Rattle.handover.proofs.ring.Ring.put.Goals as goal
