@@ -1,5 +1,5 @@
 -- Buffers of which a part is changed.
-use Rattle.std.proofs.Common.{◌≡◌, ℕ, zero, suc, ◌+◌, ◌-◌, ◌<◌, ◌≤◌, ◌≢◌, List, [], ◌∷◌, length, get_or, set, replicate, sym, refl, ap, ◌∙◌, subst, le_of_suc-le-suc, zero-add, arith, length-set, get_or-set_other, get_or-set_same, below_more}
+use Rattle.std.proofs.Common.{◌≡◌, ℕ, zero, suc, ◌+◌, ◌<◌, ◌≤◌, ◌≢◌, List, [], ◌∷◌, length, get_or, set, replicate, sym, refl, ap, ◌∙◌, le_of_suc-le-suc, zero-add, arith, length-set, get_or-set_other, get_or-set_same, below_more}
 use lib.Bits.{bit_xor, xor_zero_l}
 use Rattle.std.proofs.lemmas.List.{ext_get_or}
 use Rattle.cover.specs.Lists.{covered, streamed, Changed}

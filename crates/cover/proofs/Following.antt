@@ -1,10 +1,9 @@
 -- A memory that follows a generator goes on with it.
-use Rattle.std.proofs.Common.{◌≡◌, ℕ, suc, ◌+◌, ◌-◌, ◌*◌, ◌^◌, ◌<◌, Bool, true, false, eqb, take, Ok, Err, sym, ap, ◌∙◌, subst, add-one, arith, true-eqb, false-eqb}
-use Rattle.mother.specs.Generators.{Words, Generator, Next, limit}
+use Rattle.std.proofs.Common.{◌≡◌, ℕ, suc, ◌+◌, Ok, sym, ap, ◌∙◌, subst, add-one}
+use Rattle.mother.specs.Generators.{Words, Generator, Next}
 use Rattle.keystream.specs.declared.Filter.{Ghosts}
-use Rattle.keystream.specs.Keystreams.{memory, block_bytes}
-use Rattle.cover.specs.declared.stage.Made.{Made}
-use Rattle.cover.specs.Follow.{Follows, Advanced, BlockMade, NextBlock}
+use Rattle.keystream.specs.Keystreams.{memory}
+use Rattle.cover.specs.Follow.{Follows, Advanced}
 
 module _ {M F W Y : Type 0} (m : Generator M W) (f : Ghosts F W Y) where
   pub advanced : (s s' : M) (y z : Y) (w : W) → Next m s (Ok w) s' → z ≡ f.step y w → Advanced m f s y (Ok z) s'

@@ -1,11 +1,11 @@
 -- The parts of a call, over plain variables.
-use Rattle.std.proofs.Common.{◌≡◌, ℕ, zero, suc, ◌+◌, ◌-◌, ◌*◌, ◌/◌, ◌%◌, ◌^◌, ◌<◌, ◌≤◌, true, false, eqb, List, length, get_or, take, Ok, Err, Result, sym, refl, ap, ◌∙◌, subst, ⊎_elim, mul-le-mul_left, zero-mul, mul-one, arith, get_or-take, eq-eqb, ne_eqb}
+use Rattle.std.proofs.Common.{◌≡◌, ℕ, zero, suc, ◌+◌, ◌-◌, ◌*◌, ◌%◌, ◌^◌, ◌<◌, ◌≤◌, eqb, List, length, get_or, take, Ok, Err, Result, sym, ap, ◌∙◌, subst, ⊎_elim, mul-le-mul_left, zero-mul, mul-one, arith, get_or-take, eq-eqb, ne_eqb}
 use lib.Arith.{digits_div, digits_mod}
 use lib.Bits.{bit_xor}
 use Rattle.std.proofs.lemmas.Bool.{cases_lt}
 use Rattle.mother.specs.Generators.{Words, Generator, limit}
 use Rattle.keystream.specs.declared.Filter.{Ghosts}
-use Rattle.keystream.specs.Keystreams.{memory, block_bytes, byte_at}
+use Rattle.keystream.specs.Keystreams.{block_bytes, byte_at}
 use Rattle.cover.specs.declared.stage.Stage.{Stage}
 use Rattle.cover.specs.declared.stage.Made.{Made}
 use Rattle.cover.specs.Lists.{Changed}

@@ -3,7 +3,7 @@ use Rattle.std.proofs.Common.{◌≡◌, ℕ, zero, suc, ◌+◌, ◌-◌, ◌*�
 use Rattle.refusal.specs.declared.Refusal.{Refusal}
 use Rattle.mother.specs.Generators.{Words, Generator, Fills}
 use Rattle.cover.specs.declared.stage.Stage.{Stage}
-use Rattle.cover.specs.Follow.{Follows, At, Going, GroupCovered}
+use Rattle.cover.specs.Follow.{Going, GroupCovered}
 use Rattle.keystream.specs.declared.Filter.{Ghosts}
 use Rattle.keystream.specs.Keystreams.{memory, block_bytes, byte_at}
 use Rattle.cover.specs.Lists.{Changed}

@@ -51,13 +51,13 @@ module _ {M F W Y : Type 0} (m : Generator M W) (f : Ghosts F W Y) where
 
   -- the stage stands at position p, after `made` blocks, the last with `left` bytes to be used yet
   pub record At (s : M) (st : Stage Y) (ws : Words W) (p : ℕ) : Type 0 where
-    pub IfOk : ℕ
+    pub made : ℕ
     pub position : st.progress.position ≡ p
-    pub sum : p + st.progress.left ≡ IfOk * f.size
+    pub sum : p + st.progress.left ≡ made * f.size
     pub few : st.progress.left < f.size
-    pub follows : Follows s st.made.memory ws (2 * IfOk - 1)
+    pub follows : Follows s st.made.memory ws (2 * made - 1)
     pub from : 0 < st.progress.left → st.progress.from + st.progress.left ≡ f.size
-    pub block : 0 < st.progress.left → take f.size st.made.block ≡ block_bytes f ws (IfOk - 1)
+    pub block : 0 < st.progress.left → take f.size st.made.block ≡ block_bytes f ws (made - 1)
 
   -- n bytes of a buffer, which was `old`, are covered from position p on
   pub record Going (ws : Words W) (p n : ℕ) (old : List ℕ) (s : M) (st : Stage Y) (new : List ℕ) : Type 0 where

@@ -1,5 +1,5 @@
 -- Bytes under a keystream.
-use Rattle.std.specs.Prelude.{◌≡◌, ℕ, zero, suc, ◌+◌, ◌<◌, ◌≤◌, List, [], ◌∷◌, length, bit_xor, slice_index}
+use Rattle.std.specs.Prelude.{◌≡◌, ℕ, zero, suc, ◌<◌, ◌≤◌, List, [], ◌∷◌, length, bit_xor, slice_index}
 
 -- each byte XOR the keystream byte of its position, the first at p
 abbrev pub covered : (ℕ → ℕ) → ℕ → List ℕ → List ℕ

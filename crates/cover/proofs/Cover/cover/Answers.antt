@@ -1,4 +1,4 @@
-use Rattle.std.proofs.Common.{◌≡◌, ℕ, ◌+◌, ◌^◌, ◌≤◌, length, Option, sym, ap, ◌∙◌, subst, arith}
+use Rattle.std.proofs.Common.{◌≡◌, ℕ, ◌+◌, ◌^◌, ◌≤◌, length, Option, subst, arith}
 use Rattle.mother.specs.Means.{means}
 use Rattle.keystream.specs.Keystreams.{byte_at}
 use Rattle.cover.specs.declared.stage.Stage.{Stage}

@@ -1,4 +1,4 @@
-use Rattle.std.proofs.Common.{◌≡◌, ℕ, length, sym, refl, ap, ◌∙◌, subst, arith}
+use Rattle.std.proofs.Common.{◌≡◌, ℕ, length, refl, ◌∙◌, subst, arith}
 use Rattle.mother.specs.Means.{means}
 use Rattle.cover.specs.Follow.{Going}
 use Rattle.cover.proofs.pieces.follow.Goals as goal

@@ -1,4 +1,4 @@
-use Rattle.std.proofs.Common.{◌≡◌, sym, ◌∙◌, subst, arith, rules}
+use Rattle.std.proofs.Common.{sym, ◌∙◌, subst, arith}
 use Rattle.std.proofs.lemmas.Result.{IfOk-from_err}
 use Rattle.cover.specs.Follow.{Room}
 use Rattle.cover.proofs.pieces.groups.Goals as goal
@@ -26,8 +26,9 @@ loop-stage-preserved g c = (
 )
 
 pub one_group-requires : goal.one_group-requires
-one_group-requires g c = (
-  subst (λ n. Room c.loop-stage.stage n c.loop-stage.at) (sym c.loop-stage.auto.bytes) c.loop-stage.invariant.0,
-  (omega (arith, c.size-size.ensures, c.loop-stage.auto.bytes), omega arith),
-  omega (arith, c.loop-stage.auto.words),
-)
+one_group-requires g c =
+    record {
+      room = subst (λ n. Room c.loop-stage.stage n c.loop-stage.at) (sym c.loop-stage.auto.bytes) c.loop-stage.invariant.0;
+      in_bounds = (omega (arith, c.size-size.ensures, c.loop-stage.auto.bytes), omega arith);
+      words_len = omega (arith, c.loop-stage.auto.words);
+    }

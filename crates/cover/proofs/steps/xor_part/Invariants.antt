@@ -1,4 +1,4 @@
-use Rattle.std.proofs.Common.{ℕ, ◌+◌, ◌-◌, get_or}
+use Rattle.std.proofs.Common.{◌+◌, ◌-◌, get_or}
 use Rattle.cover.specs.Lists.{Changed}
 use Rattle.cover.proofs.steps.xor_part.Given as goal
 
