@@ -1,5 +1,5 @@
 -- The sequences of the pile meet the equations.
-use Rattle.std.proofs.Common.{◌≡◌, ℕ, zero, suc, ◌+◌, ◌-◌, ◌*◌, ◌/◌, ◌%◌, ◌<◌, ◌≤◌, ◌⊎◌, List, get_or, sym, refl, ap, ◌∙◌, inl, inr, add-one, arith}
+use Rattle.std.proofs.Common.{◌≡◌, ℕ, ◌+◌, ◌*◌, ◌/◌, ◌%◌, ◌⊎◌, List, get_or, sym, refl, ap, ◌∙◌, inl, inr, add-one, arith}
 use Rattle.std.proofs.lemmas.Bool.{cases_lt}
 use Rattle.row.specs.declared.Row.{Row}
 use Rattle.row.specs.Rows.{lane_in}
@@ -55,7 +55,10 @@ generated key iv lk li =
 abbrev sequences : List ℕ → List ℕ → Sequences
 sequences key iv =
     record {
-      below = below key iv;
+      b = booter.x key iv;
+      a = booter.a key iv;
+      w = (wide_words key iv).word;
+      x = recursion.x (booter.words key iv).word;
       y = memory wide (wide_words key iv);
       z = λ i. output (memory wide (wide_words key iv) (2 * i)) (memory wide (wide_words key iv) (2 * i + 1));
     }
@@ -63,8 +66,21 @@ sequences key iv =
 equations_stand : (key iv : List ℕ) → Lawful key → Lawful iv → CryptMT key iv (sequences key iv)
 unfolding output
 equations_stand key iv lk li =
+    let g = generated key iv lk li in
     record {
-      generated = generated key iv lk li;
+      iv_first = g.iv_first;
+      key_first = g.key_first;
+      iv_second = g.iv_second;
+      key_second = g.key_second;
+      last = g.last;
+      turn_first = g.turn_first;
+      turn = g.turn;
+      fed_back = g.fed_back;
+      word_first = g.word_first;
+      row_marked = g.row_marked;
+      row_first = g.row_first;
+      row_next = g.row_next;
+      word_next = g.word_next;
       memory_first = refl;
       memory_next = λ m. ap (memory wide (wide_words key iv)) (add-one m);
       output = λ i. refl;

@@ -68,8 +68,8 @@ pub record CryptMT (key iv : List ℕ) (s : Sequences) : Type 0 where
 abbrev pub byte_of : Sequences → ℕ → ℕ
 byte_of s p = slice_index (row_bytes (s.z (p / 16))) (p % 16)
 
--- the rows of the generators alone, whatever filter takes them in. b_j and a_j: the booter's rows and accumulators. w_i: the words. x_j: the rows of the
--- recursion
+-- the same of the generators alone, whatever filter takes in their words. b_j and a_j: the booter's rows and
+-- accumulators. w_i: the words. x_j: the rows of the recursion
 pub record Rows : Type 0 where
   pub b : ℕ → Row
   pub a : ℕ → Row
