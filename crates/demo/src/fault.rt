@@ -3,7 +3,7 @@ use std::alloc::{AllocError, AllocFailed};
 use std::io;
 
 // Why the demo stops before its end.
-#[derive(Drop)]
+#[derive(Debug, Drop)]
 pub enum Fault {
     Refused(Refusal),
     NoMemory,

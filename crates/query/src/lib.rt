@@ -55,7 +55,7 @@ impl From<HexError> for QueryError {
 fn named(text: &[u8]) -> Option<Kind>
     ensures { result ≡ kind_of text.now }
 {
-    if text == b"wide" {
+    if text == b"wide".as_slice() {
         Some(Kind::Wide)
     } else {
         None

@@ -1,5 +1,5 @@
 -- A walk from a set-up on, and back again.
-use Rattle.std.proofs.Common.{◌≡◌, ℕ, ◌+◌, ◌-◌, ◌<◌, ◌≤◌, List, Ok, Err, Result, ap, ◌∙◌, inl, inr, arith}
+use Rattle.std.proofs.Common.{◌≡◌, ℕ, ◌+◌, ◌-◌, List, Ok, Err, Result, ap, ◌∙◌, inr, arith}
 use Rattle.refusal.specs.declared.Refusal.{Refusal}
 use Rattle.row.specs.declared.Row.{Row}
 use Rattle.mother.specs.Generators.{Words, Generator, Lawful}

@@ -13,7 +13,7 @@ returns-in-Ok c =
     granted_text (asked c.args.query.now) (vec_items c.push_hex.new.text) (vec_items c.new-text.result)
     c.deref.result.now out c.in-Ok.ensures.0 c.in-Ok.ensures.1
     (c.deref.ensures.value ∙ take_at out spare c.in_ok-bytes.bytes.len long)
-    c.new-text.ensures.items c.in_ok-push_hex.ensures
+    c.new-text.ensures.items c.in_ok-push_hex-in-Ok.ensures
 
 pub returns : goal.returns
 returns c =

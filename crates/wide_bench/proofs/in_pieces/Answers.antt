@@ -1,4 +1,4 @@
-use Rattle.std.proofs.Common.{◌≡◌, ℕ, ◌+◌, ◌-◌, ◌≤◌, length, take, drop, sym, ap, ◌∙◌, subst, arith, length-drop, length-take}
+use Rattle.std.proofs.Common.{◌≡◌, ℕ, ◌+◌, ◌-◌, ◌≤◌, length, take, drop, ◌∙◌, subst, arith, length-drop, length-take}
 use Rattle.mother.specs.Means.{means}
 use Rattle.keystream.specs.Keystreams.{byte_at}
 use Rattle.cover.specs.Covers.{Ready}

@@ -21,5 +21,5 @@ returns c =
     record {
       addresses = e;
       undone = λ whole.
-          ap bytes_of e ∙ bytes_back bytes (λ k. omega (arith, c.type-inv.bytes k)) whole;
+          ap bytes_of e ∙ bytes_back bytes (λ k. omega (arith, c.type_inv.bytes k)) whole;
     }

@@ -1,4 +1,4 @@
-use Rattle.std.proofs.Common.{◌≡◌, ◌≤◌, ◌++◌, length, vec_items, ap, ◌∙◌, arith}
+use Rattle.std.proofs.Common.{◌≡◌, ◌++◌, vec_items, ap, ◌∙◌, arith}
 use Rattle.std.proofs.lemmas.List.{take_all}
 use Rattle.demo.specs.Addresses.{bytes_of, addresses_of}
 use Rattle.demo.proofs.Bytes.{bytes_more, addresses_back}
@@ -16,4 +16,4 @@ returns c =
     let xs = c.args.addresses.now in
     let e : vec_items c.loop-a.bytes ≡ bytes_of c.args.addresses.now =
     c.loop-a.invariant ∙ ap bytes_of (take_all c.loop-a.a-index xs c.loop-a-test.false) in
-    record { bytes = e; undone = ap addresses_of e ∙ addresses_back xs (λ k. omega (arith, c.type-inv.addresses k)) }
+    record { bytes = e; undone = ap addresses_of e ∙ addresses_back xs (λ k. omega (arith, c.type_inv.addresses k)) }
