@@ -7,9 +7,8 @@
 #include <stddef.h>
 #include <stdint.h>
 
-/* As cryptmt_words and cryptmt_blocks. */
-uint8_t wide_cover_pieces(const uint8_t *key, size_t key_len, const uint8_t *iv, size_t iv_len,
-                          uint8_t *buf, size_t buf_len, size_t piece);
+/* wide_cover_pieces, as cryptmt_words and cryptmt_blocks. */
+#include "wide_cover.h"
 
 /* As cryptmt_walk_on. */
 uint8_t wide_walk_on(const uint8_t *key, size_t key_len, const uint8_t *iv, size_t iv_len,

@@ -52,7 +52,7 @@ generated key iv lk li =
     }
 
 -- with the wide filter
-abbrev sequences : List ℕ → List ℕ → Sequences
+abbrev pub sequences : List ℕ → List ℕ → Sequences
 sequences key iv =
     record {
       b = booter.x key iv;
@@ -63,7 +63,7 @@ sequences key iv =
       z = λ i. output (memory wide (wide_words key iv) (2 * i)) (memory wide (wide_words key iv) (2 * i + 1));
     }
 
-equations_stand : (key iv : List ℕ) → Lawful key → Lawful iv → CryptMT key iv (sequences key iv)
+pub equations_stand : (key iv : List ℕ) → Lawful key → Lawful iv → CryptMT key iv (sequences key iv)
 unfolding output
 equations_stand key iv lk li =
     let g = generated key iv lk li in

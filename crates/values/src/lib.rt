@@ -46,6 +46,10 @@ mod tests {
         assert_eq!(rt; row(0, 0, 0, 1).perm_shift1(), row(0, 0, 1, 0));
         assert_eq!(rt; row(0, 0, 0, 1).perm_shift2(), row(0, 1, 0, 0));
         assert_eq!(rt; row(0, 0, 0, 2).perm_shift3(), row(1, 0, 0, 2));
+    }
+
+    #[test]
+    fn perm_shifts_undone(rt: HostRuntime) {
         assert_eq!(rt; row(0, 0, 1, 0).undo_perm_shift1(), row(0, 0, 0, 1));
         assert_eq!(rt; row(1, 0, 0, 2).undo_perm_shift3(), row(0, 0, 0, 2));
     }
@@ -55,6 +59,11 @@ mod tests {
         let zeros = row(0, 0, 0, 0);
         // with zeros before it the mask leaves nothing
         assert_eq!(rt; step(zeros, zeros, row(0, 0, 0, 8), zeros), row(0, 8, 0, 1));
+    }
+
+    #[test]
+    fn recursion_step_undone(rt: HostRuntime) {
+        let zeros = row(0, 0, 0, 0);
         assert_eq!(rt;
             unstep(zeros, row(0, 8, 0, 1), zeros, row(0, 0, 0, 8)),
             zeros
