@@ -17,7 +17,7 @@ row_of bytes i = row_at bytes (16 * i)
 abbrev pub H : List ℕ → List ℕ → ℕ
 H key iv = 2 * (rows iv + rows key)
 
--- mask, with full words of 8 digits, and the row that is added to the last of the register
+-- MASK, with full words of 8 digits, and the row that is added to the last of the register
 abbrev pub mask : Row
 mask = row 0xffdfafdf 0xf5dabfff 0xffdbffff 0xef7bffff
 

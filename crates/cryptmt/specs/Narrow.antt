@@ -1,7 +1,7 @@
 -- The narrow keystreams: a narrow filter over the lanes of the hand-over over the booter.
 use Rattle.std.specs.Prelude.{◌≡◌, ℕ, List, Result}
 use Rattle.refusal.specs.declared.Refusal.{Refusal}
-use Rattle.row.specs.Lanes.{Lane, ◌⊗◌, odd_factor}
+use Rattle.row.specs.Lanes.{◌⊗◌, odd_factor}
 use Rattle.mother.specs.Generators.{Words, Lawful}
 use Rattle.lanes.specs.Order.{in_lanes}
 use Rattle.keystream.specs.declared.Filter.{Ghosts}
@@ -15,7 +15,7 @@ use Rattle.cryptmt.specs.Wide.{wide_words}
 
 -- what a narrow filter with the step f means
 abbrev pub narrow : {F : Type 0} → (ℕ → ℕ → ℕ) → Ghosts F ℕ ℕ
-narrow f = record { first = odd_factor; step = f; held = Lane; size = 2; bytes = top_bytes }
+narrow f = record { first = odd_factor; step = f; size = 2; bytes = top_bytes }
 
 -- the words of the lanes over the pile
 abbrev pub lane_words : List ℕ → List ℕ → Words ℕ

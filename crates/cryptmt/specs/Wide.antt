@@ -3,7 +3,6 @@ use Rattle.std.specs.Prelude.{◌≡◌, ℕ, ◌+◌, ◌^◌, ◌<◌, ◌≤�
 use Rattle.refusal.specs.declared.Refusal.{Refusal}
 use Rattle.refusal.specs.Numbers.{numbered}
 use Rattle.row.specs.declared.Row.{Row}
-use Rattle.row.specs.Rows.{Lanes}
 use Rattle.mother.specs.Generators.{Words, Lawful, LengthsRefused}
 use Rattle.booter.specs.Sequences as booter
 use Rattle.handover.specs.Recursion.{over}
@@ -16,7 +15,7 @@ use Rattle.cryptmt.specs.Equations.{Sequences, CryptMT, byte_of}
 
 -- what the wide filter means
 abbrev pub wide : Ghosts Wide Row Row
-wide = record { first = λ start. start; step = stepped; held = Lanes; size = 16; bytes = output_bytes }
+wide = record { first = λ start. start; step = stepped; size = 16; bytes = output_bytes }
 
 -- the words of the pile
 abbrev pub wide_words : List ℕ → List ℕ → Words Row

@@ -27,14 +27,14 @@ module _ {M F W Y : Type 0} (m : Generator M W) (f : Ghosts F W Y) where
         moved.3.given,
       )
 
-  module _ (stays : (y : Y) (x : W) → f.held (f.step y x)) where
+  module _ (held : Y → Type 0) (stays : (y : Y) (x : W) → held (f.step y x)) where
     -- each memory is one that the program can hold
-    memory_held : (ws : Words W) (n : ℕ) → Begins m f ws → f.held (memory f ws n)
+    memory_held : (ws : Words W) (n : ℕ) → Begins m f held ws → held (memory f ws n)
     memory_held ws zero h = h
     memory_held ws (suc n) h = stays (memory f ws n) (ws.word n)
 
-    pub word_back : (s s' : M) (y z : Y) (w : W) → Back m s (Ok w) s' → TakenBack f.held f.step y w z
-        → GoesBack m f s y 1 (Ok z) s'
+    pub word_back : (s s' : M) (y z : Y) (w : W) → Back m s (Ok w) s' → TakenBack held f.step y w z
+        → GoesBack m f held s y 1 (Ok z) s'
     word_back s s' y z w back undone ws n begins fo =
         let moved = back fo.sound in
         let some : 1 ≤ n = omega (arith, moved.1, fo.place) in
@@ -58,16 +58,16 @@ module _ {M F W Y : Type 0} (m : Generator M W) (f : Ghosts F W Y) where
   OnBy s y i s' y' =
       (ws : Words W) (n : ℕ) → Follows m f s y ws n → Follows m f s' y' ws (n + i) × (m.given s' ≡ m.given s)
 
-  abbrev pub BackBy : M → Y → ℕ → M → Y → Type 0
-  BackBy s y i s' y' =
-      (ws : Words W) (n : ℕ) → Begins m f ws → Follows m f s y ws n → i ≤ n
+  abbrev pub BackBy : (Y → Type 0) → M → Y → ℕ → M → Y → Type 0
+  BackBy held s y i s' y' =
+      (ws : Words W) (n : ℕ) → Begins m f held ws → Follows m f s y ws n → i ≤ n
       → Follows m f s' y' ws (n - i) × (m.given s' ≡ m.given s)
 
   pub on_none : (s : M) (y : Y) → OnBy s y 0 s y
   on_none s y ws n fo = (follows_at s y ws n (n + 0) (sym (add-zero n)) fo, refl)
 
-  pub back_none : (s : M) (y : Y) → BackBy s y 0 s y
-  back_none s y ws n begins fo le = (follows_at s y ws n (n - 0) (omega arith) fo, refl)
+  pub back_none : (held : Y → Type 0) (s : M) (y : Y) → BackBy held s y 0 s y
+  back_none held s y ws n begins fo le = (follows_at s y ws n (n - 0) (omega arith) fo, refl)
 
   pub on_more : (s t u : M) (y z v : Y) (i : ℕ) → OnBy s y i t z → GoesOn m f t z 1 (Ok v) u → OnBy s y (i + 1) u v
   on_more s t u y z v i so_far next ws n fo =
@@ -75,8 +75,9 @@ module _ {M F W Y : Type 0} (m : Generator M W) (f : Ghosts F W Y) where
       let after = next ws (n + i) before.0 in
       (follows_at u v ws (n + i + 1) (n + (i + 1)) (omega arith) after.1, after.2 ∙ before.1)
 
-  pub back_more : (s t u : M) (y z v : Y) (i : ℕ) → BackBy s y i t z → GoesBack m f t z 1 (Ok v) u → BackBy s y (i + 1) u v
-  back_more s t u y z v i so_far next ws n begins fo le =
+  pub back_more : (held : Y → Type 0) (s t u : M) (y z v : Y) (i : ℕ) → BackBy held s y i t z → GoesBack m f held t z 1 (Ok v) u
+      → BackBy held s y (i + 1) u v
+  back_more held s t u y z v i so_far next ws n begins fo le =
       let before = so_far ws n begins fo (omega arith) in
       let after = next ws (n - i) begins before.0 in
       (follows_at u v ws (n - i - 1) (n - (i + 1)) (omega arith) after.1, after.2 ∙ before.1)
@@ -86,9 +87,10 @@ module _ {M F W Y : Type 0} (m : Generator M W) (f : Ghosts F W Y) where
       → (ws : Words W) (n : ℕ) → Follows m f s y ws n → n + k ≤ limit → ⊥
   on_granted s t u y z i k e lt so_far next ws n fo low = omega (arith, (next ws (n + i) (so_far ws n fo).0).0)
 
-  pub back_granted : (s t u : M) (y z : Y) (i k : ℕ) (e : Refusal) → i < k → BackBy s y i t z → GoesBack m f t z 1 (Err e) u
-      → (ws : Words W) (n : ℕ) → Begins m f ws → Follows m f s y ws n → k ≤ n → ⊥
-  back_granted s t u y z i k e lt so_far next ws n begins fo le =
+  pub back_granted : (held : Y → Type 0) (s t u : M) (y z : Y) (i k : ℕ) (e : Refusal) → i < k → BackBy held s y i t z
+      → GoesBack m f held t z 1 (Err e) u
+      → (ws : Words W) (n : ℕ) → Begins m f held ws → Follows m f s y ws n → k ≤ n → ⊥
+  back_granted held s t u y z i k e lt so_far next ws n begins fo le =
       omega (arith, (next ws (n - i) begins (so_far ws n begins fo (omega arith)).0).0)
 
   -- all k of them
@@ -97,8 +99,8 @@ module _ {M F W Y : Type 0} (m : Generator M W) (f : Ghosts F W Y) where
   on_all s t y z i k e so_far ws n fo low =
       let all = so_far ws n fo in (low, follows_at t z ws (n + i) (n + k) (ap (λ j. n + j) e) all.0, all.1)
 
-  pub back_all : (s t : M) (y z : Y) (i k : ℕ) → i ≡ k → BackBy s y i t z → (ws : Words W) (n : ℕ) → Begins m f ws
+  pub back_all : (held : Y → Type 0) (s t : M) (y z : Y) (i k : ℕ) → i ≡ k → BackBy held s y i t z → (ws : Words W) (n : ℕ) → Begins m f held ws
       → Follows m f s y ws n → k ≤ n → (k ≤ n) × Follows m f t z ws (n - k) × (m.given t ≡ m.given s)
-  back_all s t y z i k e so_far ws n begins fo le =
+  back_all held s t y z i k e so_far ws n begins fo le =
       let all = so_far ws n begins fo (omega arith) in
       (le, follows_at t z ws (n - i) (n - k) (ap (λ j. n - j) e) all.0, all.1)

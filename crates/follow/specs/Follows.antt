@@ -14,16 +14,16 @@ module _ {M F W Y : Type 0} (m : Generator M W) (f : Ghosts F W Y) where
     pub place : m.place s ≡ n
     pub memory : y ≡ memory f ws n
 
-  -- the first memory is one that the program can hold, as each that it was given is
-  abbrev pub Begins : Words W → Type 0
-  Begins ws = f.held (f.first ws.start)
+  -- the first memory is held, that is one that the program can hold
+  abbrev pub Begins : (Y → Type 0) → Words W → Type 0
+  Begins held ws = held (f.first ws.start)
 
   -- a set-up begins at the front of the words that a key and an IV fix; one that is refused leaves what is followed
-  abbrev pub SetsUp : M → List ℕ → List ℕ → Result Y Refusal → M → Type 0
-  SetsUp s key iv (Ok y) s' =
-      Lawful key × Lawful iv × Begins (m.given s key iv) × Follows s' y (m.given s key iv) 0
+  abbrev pub SetsUp : (Y → Type 0) → M → List ℕ → List ℕ → Result Y Refusal → M → Type 0
+  SetsUp held s key iv (Ok y) s' =
+      Lawful key × Lawful iv × Begins held (m.given s key iv) × Follows s' y (m.given s key iv) 0
       × (m.given s' ≡ m.given s)
-  SetsUp s key iv (Err e) s' =
+  SetsUp held s key iv (Err e) s' =
       LengthsRefused key iv e × ((y : Y) (ws : Words W) (n : ℕ) → Follows s y ws n → Follows s' y ws n)
       × (m.given s' ≡ m.given s)
 
@@ -41,5 +41,6 @@ module _ {M F W Y : Type 0} (m : Generator M W) (f : Ghosts F W Y) where
   WentBack ws n k s y (Ok y') s' = (k ≤ n) × Follows s' y' ws (n - k) × (m.given s' ≡ m.given s)
   WentBack ws n k s y (Err e) s' = (n < k) × (numbered e ≡ 14) × Follows s' y ws n × (m.given s' ≡ m.given s)
 
-  abbrev pub GoesBack : M → Y → ℕ → Result Y Refusal → M → Type 0
-  GoesBack s y k r s' = (ws : Words W) (n : ℕ) → Begins ws → Follows s y ws n → WentBack ws n k s y r s'
+  abbrev pub GoesBack : (Y → Type 0) → M → Y → ℕ → Result Y Refusal → M → Type 0
+  GoesBack held s y k r s' =
+      (ws : Words W) (n : ℕ) → Begins held ws → Follows s y ws n → WentBack ws n k s y r s'

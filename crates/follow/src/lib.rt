@@ -4,20 +4,22 @@ ghost use Rattle.mother.specs.Means.{means};
 ghost use Rattle.follow.specs.Follows.{SetsUp, GoesOn, GoesBack};
 
 use keystream::Filter;
+use keystream::two_way::TwoWayFilter;
 use mother::two_way::TwoWay;
 use mother::{LIMIT, Mother};
 use refusal::Refusal;
 
 // Sets up the generator, and answers the first memory.
-pub fn set_up<M: Mother, F: Filter<Word = M::Word>>(
+pub fn set_up<M: Mother, F: TwoWayFilter + Filter<Word = M::Word>>(
     mother: &mut M,
     key: &[u8],
     iv: &[u8],
 ) -> Result<F::Memory, Refusal>
-    ensures { SetsUp (means M.Mother) F.Filter mother.old key.now iv.now
+    ensures { SetsUp (means M.Mother) F.Filter F.held mother.old key.now iv.now
         result mother.new }
 {
     let start = mother.set_up(key, iv)?;
+    F::first_is_held(start);
     Ok(F::first(start))
 }
 
@@ -33,11 +35,11 @@ pub fn step_on<M: Mother, F: Filter<Word = M::Word>>(
 }
 
 // The memory before the last word, from the state alone.
-pub fn step_back<M: TwoWay, F: Filter<Word = M::Word>>(
+pub fn step_back<M: TwoWay, F: TwoWayFilter + Filter<Word = M::Word>>(
     mother: &mut M,
     memory: F::Memory,
 ) -> Result<F::Memory, Refusal>
-    ensures { GoesBack (means M.Mother) F.Filter mother.old memory 1 result mother.new }
+    ensures { GoesBack (means M.Mother) F.Filter F.held mother.old memory 1 result mother.new }
 {
     let word = mother.back()?;
     Ok(F::undo(memory, word))
@@ -63,12 +65,12 @@ pub fn on<M: Mother, F: Filter<Word = M::Word>>(
 }
 
 // The memory so many words before, each of them undone.
-pub fn back<M: TwoWay, F: Filter<Word = M::Word>>(
+pub fn back<M: TwoWay, F: TwoWayFilter + Filter<Word = M::Word>>(
     mother: &mut M,
     memory: F::Memory,
     words: u64,
 ) -> Result<F::Memory, Refusal>
-    ensures { GoesBack (means M.Mother) F.Filter mother.old memory words result mother.new }
+    ensures { GoesBack (means M.Mother) F.Filter F.held mother.old memory words result mother.new }
 {
     if words > mother.place() {
         return Err(Refusal::BeforeFirst);

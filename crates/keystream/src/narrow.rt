@@ -5,6 +5,7 @@ ghost use Rattle.std.proofs.Common.{rules};
 ghost use Rattle.row.proofs.RowFits.{oprod_lt};
 
 use crate::Filter;
+use crate::two_way::TwoWayFilter;
 use row::lane;
 
 // The filter over 32-bit words that multiplies by each word with its lowest bit set, with blocks of
@@ -53,13 +54,9 @@ impl Filter for Narrow {
 
     ghost step = { multiplied };
 
-    ghost held = { Lane };
-
     ghost size = { 2 };
 
     ghost bytes = { top_bytes };
-
-    ghost stays = { Prim.search rules };
 
     ghost some = { Prim.search rules };
 
@@ -75,16 +72,26 @@ impl Filter for Narrow {
         lane::product(y, x)
     }
 
-    fn undo(z: u32, x: u32) -> u32 {
-        lane::quotient(z, x)
-    }
-
     fn size() -> usize {
         BLOCK
     }
 
     fn block(y: u32, z: u32) -> [u8; 16] {
         top_bytes(y, z)
+    }
+}
+
+impl TwoWayFilter for Narrow {
+    ghost held = { Lane };
+
+    ghost stays = { Prim.search rules };
+
+    fn first_is_held(start: u32) {
+        let _y = first_memory(start);
+    }
+
+    fn undo(z: u32, x: u32) -> u32 {
+        lane::quotient(z, x)
     }
 }
 
@@ -97,13 +104,9 @@ impl Filter for NarrowOdd {
 
     ghost step = { ◌⊗◌ };
 
-    ghost held = { Lane };
-
     ghost size = { 2 };
 
     ghost bytes = { top_bytes };
-
-    ghost stays = { λ y x. oprod_lt y x };
 
     ghost some = { Prim.search rules };
 
@@ -119,15 +122,25 @@ impl Filter for NarrowOdd {
         lane::odd_product(y, x)
     }
 
-    fn undo(z: u32, x: u32) -> u32 {
-        lane::odd_quotient(z, x)
-    }
-
     fn size() -> usize {
         BLOCK
     }
 
     fn block(y: u32, z: u32) -> [u8; 16] {
         top_bytes(y, z)
+    }
+}
+
+impl TwoWayFilter for NarrowOdd {
+    ghost held = { Lane };
+
+    ghost stays = { λ y x. oprod_lt y x };
+
+    fn first_is_held(start: u32) {
+        let _y = first_memory(start);
+    }
+
+    fn undo(z: u32, x: u32) -> u32 {
+        lane::odd_quotient(z, x)
     }
 }

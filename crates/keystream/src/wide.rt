@@ -8,6 +8,7 @@ ghost use Rattle.row.specs.Bytes.{row_bytes};
 ghost use Rattle.std.proofs.Common.{rules};
 
 use crate::Filter;
+use crate::two_way::TwoWayFilter;
 use row::Row;
 use std::simd::prelude::*;
 
@@ -50,13 +51,9 @@ impl Filter for Wide {
 
     ghost step = { stepped };
 
-    ghost held = { Lanes };
-
     ghost size = { 16 };
 
     ghost bytes = { output_bytes };
-
-    ghost stays = { λ y x. lanes_both ◌⊗◌ oprod_lt (ps3 y) x };
 
     ghost some = { Prim.search rules };
 
@@ -72,15 +69,23 @@ impl Filter for Wide {
         y.perm_shift3().odd_product(x)
     }
 
-    fn undo(z: Row, x: Row) -> Row {
-        z.odd_quotient(x).undo_perm_shift3()
-    }
-
     fn size() -> usize {
         BLOCK
     }
 
     fn block(y: Row, z: Row) -> [u8; 16] {
         output_row(y, z).to_bytes()
+    }
+}
+
+impl TwoWayFilter for Wide {
+    ghost held = { Lanes };
+
+    ghost stays = { λ y x. lanes_both ◌⊗◌ oprod_lt (ps3 y) x };
+
+    fn first_is_held(_start: Row) {}
+
+    fn undo(z: Row, x: Row) -> Row {
+        z.odd_quotient(x).undo_perm_shift3()
     }
 }

@@ -22,11 +22,11 @@ module _ {M F : Type 0} (m : Generator M Row) (f : Ghosts F Row Row) (key iv : L
       (lk, li, omega (arith, went.0), went.1.memory ∙ ap (memory f ws) same)
   told_on s t first (Err e) fo on = refused_on s t first e (λ y. y ≡ memory f ws k) fo on
 
-  pub told_back : (s t u : M) (first far : Row) (r : Result Row Refusal) → Begins m f ws → Follows m f s first ws 0
-      → GoesOn m f s first k (Ok far) t → GoesBack m f t far k r u → Walked (λ y. y ≡ f.first ws.start) key iv k r
-  told_back s t u first far (Ok y) begins fo on back =
+  pub told_back : (held : Row → Type 0) (s t u : M) (first far : Row) (r : Result Row Refusal) → Begins m f held ws → Follows m f s first ws 0
+      → GoesOn m f s first k (Ok far) t → GoesBack m f held t far k r u → Walked (λ y. y ≡ f.first ws.start) key iv k r
+  told_back held s t u first far (Ok y) begins fo on back =
       let went = on ws 0 fo in
       let same : 0 + k - k ≡ 0 = omega arith in
       (lk, li, omega (arith, went.0), (back ws (0 + k) begins went.1).1.memory ∙ ap (memory f ws) same)
-  told_back s t u first far (Err e) begins fo on back =
+  told_back held s t u first far (Err e) begins fo on back =
       let went = on ws 0 fo in absurd (omega (arith, (back ws (0 + k) begins went.1).0))

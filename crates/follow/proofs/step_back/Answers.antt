@@ -4,5 +4,5 @@ use Rattle.follow.proofs.step_back.Goals as goal
 
 pub returns : goal.returns
 returns g c =
-    word_back (means g.M.Mother) g.F.Filter g.met.F.Filter.stays _ _ _ _ _ c.in_ok-word.ensures
+    word_back (means g.M.Mother) g.F.Filter g.F.TwoWayFilter.held g.met.F.TwoWayFilter.stays _ _ _ _ _ c.in_ok-word.ensures
     c.undo.ensures

@@ -19,5 +19,5 @@ returns c =
     let key = c.args.key.now in
     let iv = c.args.iv.now in
     let begun = c.in_ok-first.ensures in
-    told_back _ _ key iv (wide_words key iv) c.args.words begun.0 begun.1 _ _ _ _ _ c.back.result begun.2 begun.3
+    told_back _ _ key iv (wide_words key iv) c.args.words begun.0 begun.1 _ _ _ _ _ _ c.back.result begun.2 begun.3
     c.in_ok-far.ensures c.back.ensures

@@ -1,7 +1,7 @@
 use Rattle.std.proofs.Common.{sym}
 use Rattle.row.specs.Rows.{ps3}
 use Rattle.row.proofs.RowFits.{lanes_ps3}
-use Rattle.keystream.proofs.wide.WideFilter.undo.Goals as goal
+use Rattle.keystream.proofs.wide.WideTwoWayFilter.undo.Goals as goal
 
 -- the quotient is the perm-shift of the memory before, and no other row has that perm-shift
 pub returns : goal.returns
