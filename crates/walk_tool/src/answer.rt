@@ -1,6 +1,6 @@
-use crate::request::{Kind, Request, RequestError, parse};
 use booter::Booter;
 use digits::push_hex;
+use digits::refusals::refusal_text;
 use handover::Handover;
 use lanes::Lanes;
 use mother::Mother;
@@ -9,6 +9,7 @@ use refusal::Refusal;
 use row::Row;
 use std::alloc::{AllocError, Global};
 use walk::{WalkError, words_at};
+use walk_lines::request::{Kind, Request, RequestError, parse};
 
 // A word that is printed by its bytes, the lowest first.
 trait Printed: Copy {
@@ -49,17 +50,11 @@ fn words_text<W: Printed>(heap: Global, words: &Vec<W>) -> Result<Vec<u8>, Alloc
     Ok(text)
 }
 
-// A refusal as it is printed.
-fn refused(heap: Global, refusal: Refusal) -> Result<Vec<u8>, AllocError> {
-    let number = refusal.number();
-    Ok(format!(in heap; "no {number}")?.into_bytes())
-}
-
 // What is printed for the words of a walk.
 fn told<W: Printed>(heap: Global, walk: Result<Vec<W>, WalkError>) -> Result<Vec<u8>, AllocError> {
     match walk {
         Ok(words) => words_text(heap, &words),
-        Err(WalkError::Refusal(refusal)) => refused(heap, refusal),
+        Err(WalkError::Refusal(refusal)) => refusal_text(heap, refusal),
         Err(WalkError::NoMemory) => Err(AllocError),
     }
 }
@@ -77,10 +72,10 @@ fn answer_to(heap: Global, request: &Request) -> Result<Vec<u8>, AllocError> {
 }
 
 // What is printed for a line, without the byte that ends it.
-pub fn answer(heap: Global, line: &[u8]) -> Result<Vec<u8>, AllocError> {
+pub(crate) fn answer(heap: Global, line: &[u8]) -> Result<Vec<u8>, AllocError> {
     match parse(heap, line) {
         Ok(request) => answer_to(heap, &request),
-        Err(RequestError::Malformed) => refused(heap, Refusal::BadLine),
+        Err(RequestError::Malformed) => refusal_text(heap, Refusal::BadLine),
         Err(RequestError::NoMemory) => Err(AllocError),
     }
 }

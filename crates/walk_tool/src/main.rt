@@ -1,12 +1,11 @@
 #![tactic(auto)]
 
 use answer::answer;
-use request::LONGEST;
 use std::io;
 use std::io::{BufReader, Read, Write};
+use walk_lines::request::LONGEST;
 
 mod answer;
-mod request;
 
 // Prints the answer to a line.
 fn tell(rt: &HostRuntime, line: &[u8]) -> io::Result<()> {
