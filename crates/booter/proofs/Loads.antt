@@ -12,15 +12,20 @@ use Rattle.booter.specs.declared.register.Register.{Register}
 use Rattle.booter.specs.Registers.{State, state, wrap, kth, output, turned, fed, onward, ahead, x_from, a_from, o_from, InRange, Sound}
 use Rattle.booter.specs.Loading.{count, height, once, twice, filled, constant, loaded}
 use Rattle.booter.specs.Sequences.{x, a, o, words, SequencesStand}
-use Rattle.booter.specs.Calls.{held, Loaded, Idled, Sane, start_from, word_from}
-use Rattle.booter.proofs.Turns.{same_state, wrap_low, wrap_high, wrap_below}
+use Rattle.booter.specs.Calls.{held, newest_of, Loaded, Idled, Sane, start_from, word_from}
+use Rattle.row.proofs.RowLaws.{same_row}
+use Rattle.row.proofs.Wraps.{wrap_low, wrap_high, wrap_below}
+use Rattle.booter.proofs.Turns.{same_state}
 use Rattle.booter.proofs.Rows.{kth_ahead, first_rows, first_turn_at, later_turns_at, later_rows_at, outputs, ahead_more, sound_idle}
 
--- zeros
+-- zeros, and a row of four zeros
+pub is_zeros : (r : Row) → (r.l0 ≡ 0) × ((r.l1 ≡ 0) × ((r.l2 ≡ 0) × (r.l3 ≡ 0))) → r ≡ zeros
+is_zeros r e = same_row e.1.1.1 e.1.1.0 e.1.0 e.0
+
 lanes_zeros : Lanes zeros
 lanes_zeros = record { l3 = lit< tt; l2 = lit< tt; l1 = lit< tt; l0 = lit< tt }
 
-pub sound_zeros : Sound 4 (state (replicate 64 zeros) 0 zeros)
+sound_zeros : Sound 4 (state (replicate 64 zeros) 0 zeros)
 sound_zeros =
     record {
       range = record { head = lit< tt; least = lit≤ tt; full = lit≤ tt };
@@ -29,6 +34,9 @@ sound_zeros =
           subst Lanes (sym (get_or-replicate 64 (wrap 4 (0 + k)) zeros zeros (omega arith))) lanes_zeros;
       accumulator = lanes_zeros;
     }
+
+pub sound_new : (r : Row) → r ≡ zeros → Sound 4 (state (replicate 64 r) 0 r)
+sound_new r e = subst (λ z. Sound 4 (state (replicate 64 z) 0 z)) (sym e) sound_zeros
 
 -- the first n rows
 pub filled_length : (f : ℕ → Row) (n : ℕ) → length (filled f n) ≡ 64
@@ -173,17 +181,26 @@ module _ (key iv : List ℕ) (lk : Lawful key) (lv : Lawful iv) where
   unfolding o_from
   idle_word i = ap (output (height key iv)) (ahead_more (height key iv) i (height key iv + 2) (loaded key iv))
 
-  pub set_up_done : (r r' : Register) → Loaded key iv r → Idled r r'
-      → Sane r' × (start_from r' 0 ≡ (words key iv).start) × (word_from r' 0 ≡ (words key iv).word)
+  -- r at place n stands at the front of the words
+  abbrev AtFront : Register → ℕ → Type 0
+  AtFront r n =
+      Sane r × (newest_of r ≡ start_from r n) × (start_from r n ≡ (words key iv).start)
+      × (word_from r n ≡ (words key iv).word)
+
+  idled : (r r' : Register) → Loaded key iv r → Idled r r' → AtFront r' 0
   unfolding Sane start_from word_from
-  set_up_done r r' l i =
+  idled r r' l i =
       let h = height key iv in
       let D : State = ahead h (h + 2) (loaded key iv) in
       let here : held r' ≡ D = i.moved ∙ ap (λ z. ahead z (z + 2) (held r)) l.height ∙ ap (ahead h (h + 2)) (load_done r l) in
       let P : ℕ → State → Type 0 =
       λ z e. Sound z e × (kth z e (z - 1) ≡ (words key iv).start) × ((λ i. o_from z e i) ≡ (words key iv).word) in
       let all : P h D = (sound_idle h (loaded key iv) range_loaded (h + 2) (omega arith), idle_start, fun_ext idle_word) in
-      subst (λ (z : ℕ). P z (held r')) (sym (i.height ∙ l.height)) (subst (P h) (sym here) all)
+      let at_front = subst (λ (z : ℕ). P z (held r')) (sym (i.height ∙ l.height)) (subst (P h) (sym here) all) in
+      (at_front.0, refl, at_front.1, at_front.2)
+
+  pub set_up_done : (r r' : Register) (n : ℕ) → Loaded key iv r → Idled r r' → n ≡ 0 → AtFront r' n
+  set_up_done r r' n l i z = subst (AtFront r') (sym z) (idled r r' l i)
 
   accumulator_loaded : (loaded key iv).accumulator ≡ odd (row_at key 0)
   unfolding loaded

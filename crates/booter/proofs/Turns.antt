@@ -1,6 +1,6 @@
 -- What a step of the register does.
-use Rattle.std.proofs.Common.{◌≡◌, ℕ, ◌+◌, ◌-◌, ◌<◌, ◌≤◌, ◌≢◌, ◌⊎◌, List, length, get_or, set, sym, refl, ap, ◌∙◌, subst, inl, inr, add-zero, arith}
-use Rattle.std.proofs.lemmas.Bool.{cond-true, cond-false, lt-ltb, le-ltb, cases_lt}
+use Rattle.std.proofs.Common.{◌≡◌, ℕ, ◌+◌, ◌-◌, ◌<◌, ◌≢◌, List, length, get_or, set, sym, ap, ◌∙◌, subst, inl, inr, arith}
+use Rattle.std.proofs.lemmas.Bool.{cases_lt}
 use Rattle.std.proofs.lemmas.List.{get_or-set_same, get_or-set_other, set-set, set-get_or, length-set}
 use Rattle.row.specs.declared.Row.{Row}
 use Rattle.row.specs.Lanes.{plus, minus, ◌⊗◌, ◌⊘◌}
@@ -8,44 +8,9 @@ use Rattle.row.specs.Rows.{Lanes, zeros, both, ps1, ps2}
 use Rattle.row.specs.Undone.{unps1}
 use Rattle.row.proofs.LaneLaws.{quotient_undoes, quotient_is}
 use Rattle.row.proofs.RowLaws.{ps1_undone, ps1_onto}
+use Rattle.row.proofs.Wraps.{wrap_below, wrap_zero, wrap_more, wrap_first, wrap_less, wrap_last, wrap_apart}
 use Rattle.row.proofs.RowFits.{lanes_both, oprod_lt, oquot_lt, plus_lt, minus_lt, lanes_ps1, lanes_ps2, lanes_unps1, minus_plus, plus_minus, both_undone}
 use Rattle.booter.specs.Registers.{State, state, wrap, kth, output, turned, fed, onward, output_before, oldest_before, turned_before, backward, InRange, Sound, StepThereAndBack, StepBackAndThere}
-
-pub wrap_low : (s n : ℕ) → n < s → wrap s n ≡ n
-unfolding wrap
-wrap_low s n h = cond-true _ _ _ (lt-ltb n s h)
-
-pub wrap_high : (s n : ℕ) → s ≤ n → wrap s n ≡ n - s
-unfolding wrap
-wrap_high s n h = cond-false _ _ _ (le-ltb n s h)
-
--- the two ways that an index goes
-pub wrap_ways : (s n : ℕ) → ((n < s) × (wrap s n ≡ n)) ⊎ ((s ≤ n) × (wrap s n + s ≡ n))
-wrap_ways s n =
-    elim (cases_lt n s) [ inl h ↦ inl (h, wrap_low s n h) | inr h ↦ inr (h, omega (arith, wrap_high s n h)) ]
-
-pub wrap_below : (s n : ℕ) → n < s + s → wrap s n < s
-wrap_below s n h = elim (wrap_ways s n) [ inl e ↦ omega arith | inr e ↦ omega arith ]
-
-wrap_zero : (s head : ℕ) → head < s → wrap s (head + 0) ≡ head
-wrap_zero s head h = ap (wrap s) (add-zero head) ∙ wrap_low s head h
-
--- an index k of the register turned by one is k + 1 of the register before
-wrap_more : (s head k : ℕ) → head < s → k + 1 < s → wrap s (wrap s (head + 1) + k) ≡ wrap s (head + (k + 1))
-wrap_more s head k h l = grind (arith, wrap_ways s (head + 1), wrap_ways s (wrap s (head + 1) + k), wrap_ways s (head + (k + 1)))
-
-wrap_first : (s head : ℕ) → head < s → wrap s (wrap s (head + 1) + (s - 1)) ≡ head
-wrap_first s head h = grind (arith, wrap_ways s (head + 1), wrap_ways s (wrap s (head + 1) + (s - 1)))
-
-wrap_less : (s head k : ℕ) → head < s → k + 1 < s → wrap s (wrap s (head + (s - 1)) + (k + 1)) ≡ wrap s (head + k)
-wrap_less s head k h l = grind (arith, wrap_ways s (head + (s - 1)), wrap_ways s (wrap s (head + (s - 1)) + (k + 1)), wrap_ways s (head + k))
-
-wrap_last : (s head : ℕ) → head < s → wrap s (wrap s (head + (s - 1)) + 1) ≡ head
-wrap_last s head h = grind (arith, wrap_ways s (head + (s - 1)), wrap_ways s (wrap s (head + (s - 1)) + 1))
-
--- two places less than a turn apart differ
-wrap_apart : (s head i k : ℕ) → head < s → i < k → k < s → wrap s (head + i) ≢ wrap s (head + k)
-wrap_apart s head i k h a b e = grind (arith, wrap_ways s (head + i), wrap_ways s (head + k))
 
 pub same_state : {r r' : List Row} {h h' : ℕ} {a a' : Row} → r ≡ r' → h ≡ h' → a ≡ a' → state r h a ≡ state r' h' a'
 same_state p q r = cc
@@ -95,42 +60,6 @@ module _ (s : ℕ) (c : State) (k0 : InRange s c) where
       let l : wrap s (c.head + (s - 1)) < length c.rows = omega (arith, back_index, k0.full) in
       ap (λ i. get_or (backward s c).rows i zeros) (wrap_zero s (wrap s (c.head + (s - 1))) back_index)
       ∙ get_or-set_same c.rows (wrap s (c.head + (s - 1))) (oldest_before s c) zeros l
-
--- a step by its parts
-module _ (s : ℕ) (c : State) where
-  pub step_output : output s c ≡ both plus (kth s c 0) (kth s c (s - 2))
-  unfolding output
-  step_output = refl
-
-  pub step_turned : turned s c ≡ both ◌⊗◌ c.accumulator (ps2 (kth s c (s - 1)))
-  unfolding turned
-  step_turned = refl
-
-  pub step_fed : (p t q r : Row) → p ≡ output s c → t ≡ turned s c → q ≡ ps1 p → r ≡ both minus q t → r ≡ fed s c
-  unfolding fed
-  step_fed p t q r ep et eq er = er ∙ ap (λ z. both minus z t) (eq ∙ ap ps1 ep) ∙ ap (both minus (ps1 (output s c))) et
-
-  pub step_moved : (f : Row) (h : ℕ) (t : Row) → f ≡ fed s c → h ≡ wrap s (c.head + 1) → t ≡ turned s c
-      → state (set c.rows c.head f) h t ≡ onward s c
-  unfolding onward
-  step_moved f h t ef eh et = same_state (ap (set c.rows c.head) ef) eh et
-
-  pub unstep_output : output_before s c ≡ unps1 (both plus (kth s c (s - 1)) c.accumulator)
-  unfolding output_before
-  unstep_output = refl
-
-  pub unstep_turned : turned_before s c ≡ both ◌⊘◌ c.accumulator (ps2 (kth s c (s - 2)))
-  unfolding turned_before
-  unstep_turned = refl
-
-  pub unstep_oldest : (p r : Row) → p ≡ output_before s c → r ≡ both minus p (kth s c (s - 3)) → r ≡ oldest_before s c
-  unfolding oldest_before
-  unstep_oldest p r ep er = er ∙ ap (λ t. both minus t (kth s c (s - 3))) ep
-
-  pub unstep_moved : (f : Row) (h : ℕ) (t : Row) → f ≡ oldest_before s c → h ≡ wrap s (c.head + (s - 1)) → t ≡ turned_before s c
-      → state (set c.rows h f) h t ≡ backward s c
-  unfolding backward
-  unstep_moved f h t ef eh et = same_state (ap (λ i. set c.rows i f) eh ∙ ap (set c.rows (wrap s (c.head + (s - 1)))) ef) eh et
 
 -- the lanes of what a step makes
 lanes_output : (s : ℕ) (c : State) → Lanes (output s c)

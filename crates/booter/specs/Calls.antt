@@ -1,5 +1,5 @@
 -- What the calls on a register do, and what a booter at a place stands for.
-use Rattle.std.specs.Prelude.{◌≡◌, ℕ, ◌+◌, ◌-◌, ◌<◌, Bool, true, false, List, slice_index_or}
+use Rattle.std.specs.Prelude.{◌≡◌, ℕ, ◌+◌, ◌-◌, ◌<◌, List, slice_index_or}
 use Rattle.row.specs.declared.Row.{Row}
 use Rattle.row.specs.Rows.{zeros, ◌+₃₂◌, ◌-₃₂◌, ◌⊗₃₂◌, ◌⊘₃₂◌, odd, ps2}
 use Rattle.row.specs.Undone.{unps1}
@@ -7,10 +7,6 @@ use Rattle.booter.specs.declared.register.Register.{Register}
 use Rattle.booter.specs.Registers.{State, state, kth, output, fed, onward, output_before, backward}
 use Rattle.booter.specs.Registers.{ahead, behind, o_from, Sound}
 use Rattle.booter.specs.Loading.{count, height, rows_loaded}
-
--- the answer to a question
-abbrev pub Tells : Bool → Type 0 → Type 0
-Tells b P = (b ≡ true → P) × (b ≡ false → P → ⊥)
 
 abbrev pub held : Register → State
 held r = state r.rows r.head r.accumulator

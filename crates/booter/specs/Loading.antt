@@ -3,6 +3,7 @@ use Rattle.std.specs.Prelude.{ℕ, zero, suc, ◌+◌, ◌-◌, ◌*◌, ◌/◌
 use Rattle.row.specs.declared.Row.{Row}
 use Rattle.row.specs.Rows.{row, zeros, ◌+₃₂◌, odd}
 use Rattle.row.specs.Bytes.{row_at}
+use Rattle.std.specs.Simd.{first_chunks}
 use Rattle.booter.specs.Registers.{State, state, wrap}
 
 -- how many rows a key or an IV has, and its row i
@@ -11,6 +12,10 @@ count bytes = length bytes / 16
 
 abbrev pub row_of : List ℕ → ℕ → Row
 row_of bytes i = row_at bytes (16 * i)
+
+-- the bytes of each row
+abbrev pub chunks : List ℕ → List (List ℕ)
+chunks bytes = first_chunks 16 (count bytes) bytes
 
 -- H, how many rows the register has
 abbrev pub height : List ℕ → List ℕ → ℕ

@@ -1,8 +1,9 @@
 -- A register of H rows with its accumulator, and its step both ways. The rows stand in a ring: the oldest is at `head`.
-use Rattle.std.specs.Prelude.{◌≡◌, ℕ, zero, suc, ◌+◌, ◌-◌, ◌<◌, ◌≤◌, cond, List, length, nat_lt, slice_index_or, slice_set}
+use Rattle.std.specs.Prelude.{◌≡◌, ℕ, zero, suc, ◌+◌, ◌-◌, ◌<◌, ◌≤◌, List, length, slice_index_or, slice_set}
 use Rattle.row.specs.declared.Row.{Row}
 use Rattle.row.specs.Rows.{Lanes, zeros, ◌+₃₂◌, ◌-₃₂◌, ◌⊗₃₂◌, ◌⊘₃₂◌, ps1, ps2}
 use Rattle.row.specs.Undone.{unps1}
+unfoldable pub use Rattle.row.specs.Ring.{wrap}
 
 pub record State : Type 0 where
   pub rows : List Row
@@ -11,10 +12,6 @@ pub record State : Type 0 where
 
 abbrev pub state : List Row → ℕ → Row → State
 state rows head accumulator = record { rows = rows; head = head; accumulator = accumulator }
-
--- an index that may have passed the end once
-unfoldable pub wrap : ℕ → ℕ → ℕ
-wrap H n = cond (nat_lt n H) n (n - H)
 
 -- the row k after the oldest: x_(j+k) before step j
 abbrev pub kth : ℕ → State → ℕ → Row

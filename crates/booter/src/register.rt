@@ -5,7 +5,8 @@ use row::Row;
 mod loading;
 mod steps;
 
-// The rows of the longest IV and the longest key, twice.
+// The rows of the longest IV and the longest key, twice. The probe has no heap: a register has room for them
+// whatever its height.
 const MOST_ROWS: usize = 64;
 
 // The last `height` rows x_j in a ring, of which the oldest is at `head`, and the accumulator.

@@ -1,51 +1,60 @@
--- Buffers of which a part is changed.
-use Rattle.std.proofs.Common.{◌≡◌, ℕ, zero, suc, ◌+◌, ◌<◌, ◌≤◌, ◌≢◌, List, [], ◌∷◌, length, get_or, set, replicate, sym, refl, ap, ◌∙◌, le_of_suc-le-suc, zero-add, arith, length-set, get_or-set_other, get_or-set_same, below_more}
+-- Bytes under a keystream, by their lists.
+use Rattle.std.proofs.Common.{◌≡◌, ℕ, zero, suc, ◌+◌, ◌-◌, ◌<◌, ◌≤◌, min, drop-drop, List, [], ◌∷◌, ◌++◌, length, get_or, set, take, drop, sym, refl, ap, ◌∙◌, zero-add, arith}
 use lib.Bits.{bit_xor, xor_zero_l}
-use Rattle.std.proofs.lemmas.List.{ext_get_or}
-use Rattle.cover.specs.Lists.{covered, streamed, Changed}
+use lib.ListN.{replicate}
+use Rattle.std.proofs.lemmas.List.{take-append-drop, drop-take}
+use Rattle.cover.specs.Lists.{covered, streamed, xored}
 
-pub unchanged : (k : ℕ → ℕ) (a : ℕ) (bs : List ℕ) → Changed k a a bs bs
-unchanged k a bs = record { long = refl; before = λ i h. refl; within = λ i h h'. absurd (omega arith); after = λ i h. refl }
+-- keys more than bytes
+pub xored_none : (bs : List ℕ) → xored bs [] ≡ bs
+xored_none [] = refl
+xored_none (b ∷ bs) = refl
 
--- one byte more
-pub changed_more : (k : ℕ → ℕ) (a e v : ℕ) (old new : List ℕ) → a ≤ e → e < length old → Changed k a e old new
-    → v ≡ bit_xor (get_or new e 0) (k e) → Changed k a (e + 1) old (set new e v)
-changed_more k a e v old new le lt ch is =
-    record {
-      long = length-set new e v ∙ ch.long;
-      before = λ i h. other i (omega arith) ∙ ch.before i h;
-      within = λ i h h'. steps i h' h;
-      after = λ i h. other i (omega arith) ∙ ch.after i (omega arith);
-    }
-  where
-    lt' : e < length new
-    lt' = omega (arith, ch.long)
+pub xored_take : (bs ks : List ℕ) (n : ℕ) → length bs ≤ n → xored bs (take n ks) ≡ xored bs ks
+xored_take [] ks n h = refl
+xored_take (b ∷ bs) ks zero h = absurd (omega arith)
+xored_take (b ∷ bs) [] (suc n) h = refl
+xored_take (b ∷ bs) (k ∷ ks) (suc n) h = ap (λ t. bit_xor b k ∷ t) (xored_take bs ks n (omega arith))
 
-    other : (i : ℕ) → i ≢ e → get_or (set new e v) i 0 ≡ get_or new i 0
-    other i ne = get_or-set_other new e i v 0 ne
+-- one key more
+pub xored_more : (bs ks : List ℕ) (i : ℕ) → i < length bs → i < length ks
+    → set (xored bs (take i ks)) i (bit_xor (get_or (xored bs (take i ks)) i 0) (get_or ks i 0)) ≡ xored bs (take (suc i) ks)
+xored_more [] ks i h l = absurd (omega arith)
+xored_more (b ∷ bs) [] i h l = absurd (omega arith)
+xored_more (b ∷ bs) (k ∷ ks) zero h l = ap (λ t. bit_xor b k ∷ t) (sym (xored_none bs))
+xored_more (b ∷ bs) (k ∷ ks) (suc i) h l = ap (λ t. bit_xor b k ∷ t) (xored_more bs ks i (omega arith) (omega arith))
 
-    here : a ≤ e → get_or (set new e v) e 0 ≡ bit_xor (get_or old e 0) (k e)
-    here h = get_or-set_same new e v 0 lt' ∙ is ∙ ap (λ b. bit_xor b (k e)) (ch.after e (omega arith))
+-- n keys of the keystream cover the first n bytes
+pub xored_streamed : (K : ℕ → ℕ) (p n : ℕ) (bs : List ℕ) → xored bs (streamed K p n) ≡ covered K p (take n bs) ++ drop n bs
+xored_streamed K p zero bs = xored_none bs
+xored_streamed K p (suc n) [] = refl
+xored_streamed K p (suc n) (b ∷ bs) = ap (λ t. bit_xor b (K p) ∷ t) (xored_streamed K (suc p) n bs)
 
-    steps : (i : ℕ) → i < e + 1 → a ≤ i → get_or (set new e v) i 0 ≡ bit_xor (get_or old i 0) (k i)
-    steps = below_more (λ i. a ≤ i → get_or (set new e v) i 0 ≡ bit_xor (get_or old i 0) (k i)) e
-        (λ i h h'. other i (omega arith) ∙ ch.within i h' h) here
+pub length_streamed : (K : ℕ → ℕ) (p n : ℕ) → length (streamed K p n) ≡ n
+length_streamed K p zero = refl
+length_streamed K p (suc n) = ap suc (length_streamed K (suc p) n)
 
-length_covered : (k : ℕ → ℕ) (p : ℕ) (bs : List ℕ) → length (covered k p bs) ≡ length bs
-length_covered k p [] = refl
-length_covered k p (b ∷ bs) = ap suc (length_covered k (suc p) bs)
+-- a part of the keystream
+pub drop-streamed : (K : ℕ → ℕ) (p n k : ℕ) → drop k (streamed K p n) ≡ streamed K (p + k) (n - k)
+drop-streamed K p n zero =
+    let e : p ≡ p + 0 = omega arith in
+    let f : n ≡ n - 0 = omega arith in
+    ap (λ q. streamed K q n) e ∙ ap (streamed K (p + 0)) f
+drop-streamed K p zero (suc k) = let f : 0 ≡ 0 - suc k = omega arith in ap (streamed K (p + suc k)) f
+drop-streamed K p (suc n) (suc k) =
+    let e : suc p + k ≡ p + suc k = omega arith in
+    let f : n - k ≡ suc n - suc k = omega arith in
+    drop-streamed K (suc p) n k ∙ ap (λ q. streamed K q (n - k)) e ∙ ap (streamed K (p + suc k)) f
 
-covered_at : (k : ℕ → ℕ) (p : ℕ) (bs : List ℕ) (i : ℕ) → i < length bs → get_or (covered k p bs) i 0 ≡ bit_xor (get_or bs i 0) (k (p + i))
-covered_at k p [] i h = absurd (omega arith)
-covered_at k p (b ∷ bs) zero h = ap (λ t. bit_xor b (k t)) (omega arith)
-covered_at k p (b ∷ bs) (suc i) h =
-    covered_at k (suc p) bs i (le_of_suc-le-suc h) ∙ ap (λ t. bit_xor (get_or bs i 0) (k t)) (omega arith)
+pub length_covered : (K : ℕ → ℕ) (p : ℕ) (bs : List ℕ) → length (covered K p bs) ≡ length bs
+length_covered K p [] = refl
+length_covered K p (b ∷ bs) = ap suc (length_covered K (suc p) bs)
 
--- a buffer changed all over
-pub all_covered : (k : ℕ → ℕ) (p : ℕ) (old new : List ℕ) → Changed (λ i. k (p + i)) 0 (length old) old new → new ≡ covered k p old
-all_covered k p old new ch =
-    ext_get_or 0 new (covered k p old) (ch.long ∙ sym (length_covered k p old))
-    (λ i h. let lt : i < length old = omega (arith, ch.long) in ch.within i (omega arith) lt ∙ sym (covered_at k p old i lt))
+pub covered-append : (K : ℕ → ℕ) (p : ℕ) (xs ys : List ℕ) → covered K p (xs ++ ys) ≡ covered K p xs ++ covered K (p + length xs) ys
+covered-append K p [] ys = let e : p ≡ p + 0 = omega arith in ap (λ q. covered K q ys) e
+covered-append K p (x ∷ xs) ys =
+    let e : suc p + length xs ≡ p + suc (length xs) = omega arith in
+    ap (λ t. bit_xor x (K p) ∷ t) (covered-append K (suc p) xs ys ∙ ap (λ q. covered K (suc p) xs ++ covered K q ys) e)
 
 -- zeros under the keystream are the keystream
 pub covered_zeros : (k : ℕ → ℕ) (p n : ℕ) → covered k p (replicate n 0) ≡ streamed k p n
@@ -60,3 +69,23 @@ none_streamed k p (b ∷ bs) e = absurd (omega arith)
 pub streamed_over : (k k' : ℕ → ℕ) (p n : ℕ) (old new : List ℕ) → k ≡ k' → old ≡ replicate n 0 → new ≡ covered k (0 + p) old → new ≡ streamed k' p n
 streamed_over k k' p n old new same zeros e =
     e ∙ ap (λ t. covered k t old) (zero-add p) ∙ ap (covered k p) zeros ∙ covered_zeros k p n ∙ ap (λ t. streamed t p n) same
+
+-- with as many bytes covered as there are keys beside
+pub xored_front : (n : ℕ) (bs ks : List ℕ) → min (length bs) (length ks) ≤ n → xored (take n bs) ks ++ drop n bs ≡ xored bs ks
+xored_front zero [] ks h = refl
+xored_front zero (b ∷ bs) [] h = refl
+xored_front zero (b ∷ bs) (k ∷ ks) h = absurd (omega arith)
+xored_front (suc n) [] ks h = refl
+xored_front (suc n) (b ∷ bs) [] h = ap (λ t. b ∷ t) (take-append-drop n bs)
+xored_front (suc n) (b ∷ bs) (k ∷ ks) h = ap (λ t. bit_xor b k ∷ t) (xored_front n bs ks (omega arith))
+
+-- a part of a list without its first n
+pub part_less : (xs : List ℕ) (from to n : ℕ) → from + n ≤ to → take (to - (from + n)) (drop (from + n) xs) ≡ drop n (take (to - from) (drop from xs))
+part_less xs from to n h =
+    let m : ℕ = to - (from + n) in
+    let e : n + m ≡ to - from = omega arith in
+    ap (take m) (sym (drop-drop n from xs)) ∙ sym (drop-take n m (drop from xs)) ∙ ap (λ t. drop n (take t (drop from xs))) e
+
+pub none_covered : (K : ℕ → ℕ) (p : ℕ) (bs : List ℕ) → length bs ≡ 0 → bs ≡ covered K p bs
+none_covered K p [] e = refl
+none_covered K p (b ∷ bs) e = absurd (omega arith)

@@ -1,4 +1,3 @@
-pub mod Following
 pub mod Bytes
-pub mod Going
-pub mod Groups
+pub mod Pieces
+pub mod Covering

@@ -1,5 +1,5 @@
 -- What a cover stands for, and what its calls do.
-use Rattle.std.specs.Prelude.{◌≡◌, ℕ, ◌+◌, ◌^◌, ◌<◌, ◌≤◌, ◌⊎◌, List, length, Some, None, Ok, Err, Option, Result}
+use Rattle.std.specs.Prelude.{◌≡◌, ℕ, ◌+◌, ◌^◌, ◌<◌, ◌≤◌, List, length, MatchResult, Some, None, Ok, Err, Option, Result}
 use Rattle.refusal.specs.declared.Refusal.{Refusal}
 use Rattle.refusal.specs.Numbers.{numbered}
 use Rattle.mother.specs.Generators.{Words, Generator, Lawful, LengthsRefused}
@@ -7,8 +7,9 @@ use Rattle.keystream.specs.declared.Filter.{Ghosts}
 use Rattle.keystream.specs.Keystreams.{byte_at}
 use Rattle.cover.specs.declared.Cover.{Cover}
 use Rattle.cover.specs.declared.stage.Stage.{Stage}
-use Rattle.cover.specs.Lists.{covered, streamed}
-use Rattle.cover.specs.Follow.{At}
+use Rattle.cover.specs.Lists.{covered}
+use Rattle.cover.specs.Stretches.{Stretch}
+use Rattle.cover.specs.Blocks.{At}
 
 module _ {M F W Y : Type 0} (m : Generator M W) (f : Ghosts F W Y) where
   -- no set-up was made
@@ -53,16 +54,10 @@ module _ {M F W Y : Type 0} (m : Generator M W) (f : Ghosts F W Y) where
       × ((ws : Words W) (p : ℕ) → Ready c ws p → FromPosition ws p c bytes r c' bytes')
 
   -- n bytes more are passed over, where there are as many
-  abbrev pub PassedTo : Words W → ℕ → Cover M F W Y → Result (Unit {0}) Refusal → Cover M F W Y → Type 0
-  PassedTo ws p c (Ok _) c' = Ready c' ws p
-  PassedTo ws p c (Err e) c' = ⊥
-
   abbrev pub Passes : Cover M F W Y → ℕ → Result (Unit {0}) Refusal → Cover M F W Y → Type 0
-  Passes c n r c' = (ws : Words W) (p : ℕ) → Ready c ws p → p + n ≤ 2 ^ 32 → PassedTo ws (p + n) c r c'
+  Passes c n r c' =
+      (ws : Words W) (p : ℕ) → Ready c ws p → p + n ≤ 2 ^ 32 → MatchResult r (λ _. Ready c' ws (p + n)) (λ _. ⊥)
 
-  -- the keystream bytes of a key and an IV from a position on; refused by 2, then 6, then 13
+  -- the keystream bytes of a key and an IV from a position on
   abbrev pub Streams : M → List ℕ → List ℕ → ℕ → List ℕ → Result (Unit {0}) Refusal → List ℕ → Type 0
-  Streams s key iv p out (Ok _) out' =
-      Lawful key × Lawful iv × (p + length out ≤ 2 ^ 32) × (out' ≡ streamed (byte_at f (m.given s key iv)) p (length out))
-  Streams s key iv p out (Err e) out' =
-      (LengthsRefused key iv e ⊎ (Lawful key × Lawful iv × (2 ^ 32 < p + length out) × (numbered e ≡ 13))) × (out' ≡ out)
+  Streams s key iv = Stretch (byte_at f (m.given s key iv)) key iv

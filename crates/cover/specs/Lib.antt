@@ -1,3 +1,4 @@
 pub mod Lists
-pub mod Follow
+pub mod Blocks
+pub mod Stretches
 pub mod Covers

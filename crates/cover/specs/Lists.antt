@@ -1,5 +1,5 @@
 -- Bytes under a keystream.
-use Rattle.std.specs.Prelude.{◌≡◌, ℕ, zero, suc, ◌<◌, ◌≤◌, List, [], ◌∷◌, length, bit_xor, slice_index}
+use Rattle.std.specs.Prelude.{ℕ, zero, suc, List, [], ◌∷◌, bit_xor}
 
 -- each byte XOR the keystream byte of its position, the first at p
 abbrev pub covered : (ℕ → ℕ) → ℕ → List ℕ → List ℕ
@@ -11,9 +11,8 @@ abbrev pub streamed : (ℕ → ℕ) → ℕ → ℕ → List ℕ
 streamed k p zero = []
 streamed k p (suc n) = k p ∷ streamed k (suc p) n
 
--- the bytes from a below e are changed to XOR k of the index; the others are as they were
-pub record Changed (k : ℕ → ℕ) (a e : ℕ) (old new : List ℕ) : Type 0 where
-  pub long : length new ≡ length old
-  pub before : (i : ℕ) → i < a → slice_index new i ≡ slice_index old i
-  pub within : (i : ℕ) → a ≤ i → i < e → slice_index new i ≡ bit_xor (slice_index old i) (k i)
-  pub after : (i : ℕ) → e ≤ i → slice_index new i ≡ slice_index old i
+-- each byte XOR the key beside it; those beside no key are as they were
+abbrev pub xored : List ℕ → List ℕ → List ℕ
+xored [] ks = []
+xored (b ∷ bs) [] = b ∷ bs
+xored (b ∷ bs) (k ∷ ks) = bit_xor b k ∷ xored bs ks

@@ -4,19 +4,20 @@ ghost use Rattle.std.specs.Prelude.{◌≡◌};
 ghost use Rattle.mother.specs.Means.{means};
 ghost use Rattle.cover.specs.Covers.{Empty, SetsUp, Covers};
 
+use blocks::cover_all;
 use keystream::Filter;
 use mother::Mother;
-use pieces::follow;
 use refusal::Refusal;
-use stage::{Made, Progress, Stage};
+use rest::Rest;
+use stage::{Kept, Stage};
 
-mod pieces;
+mod blocks;
 pub mod range;
+mod rest;
 mod stage;
-mod steps;
 
 // No byte is covered at this position or beyond.
-const LIMIT: u64 = 4_294_967_296;
+pub const LIMIT: u64 = 4_294_967_296;
 
 // Covers buffers one after another: each byte is XORed with the keystream byte of its position.
 // The same again, with the same key and IV, uncovers them.
@@ -45,15 +46,9 @@ impl<M: Mother, F: Filter<Word = M::Word>> Cover<M, F> {
     {
         let start = self.mother.set_up(key, iv)?;
         self.stage = Some(Stage {
-            made: Made {
-                memory: F::first(start),
-                block: [0; 16],
-            },
-            progress: Progress {
-                position: 0,
-                from: 0,
-                left: 0,
-            },
+            position: 0,
+            rest: Rest::none(),
+            memory: Kept::First(F::first(start)),
         });
         Ok(())
     }
@@ -63,15 +58,14 @@ impl<M: Mother, F: Filter<Word = M::Word>> Cover<M, F> {
         ensures { Covers (means M.Mother) F.Filter self.old bytes.old
             result self.new bytes.new }
     {
-        let Some(mut stage) = self.stage else {
+        let Some(stage) = &mut self.stage else {
             return Err(Refusal::NotBegun);
         };
-        let first = stage.progress.position;
+        let first = stage.position;
         if bytes.len() as u64 > LIMIT - first {
             return Err(Refusal::PositionLimit);
         }
-        follow::<M, F>(&mut self.mother, &mut stage, bytes)?;
-        self.stage = Some(stage);
+        cover_all::<M, F>(&mut self.mother, stage, bytes)?;
         Ok(first)
     }
 }

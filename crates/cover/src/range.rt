@@ -1,4 +1,4 @@
-ghost use Rattle.std.specs.Prelude.{◌≡◌, ◌≤◌, length, replicate};
+ghost use Rattle.std.specs.Prelude.{◌≤◌};
 ghost use Rattle.mother.specs.Means.{means};
 ghost use Rattle.cover.specs.Covers.{Passes, Streams};
 
@@ -10,15 +10,6 @@ use refusal::Refusal;
 // How many bytes are passed over at a time.
 const PIECE: u64 = 4096;
 
-// Writes 0 over each byte.
-fn clear(bytes: &mut [u8])
-    ensures { bytes.new ≡ replicate (length bytes.old) 0 }
-{
-    for b in bytes.iter_mut() {
-        *b = 0;
-    }
-}
-
 // Passes over `n` bytes of the keystream.
 fn pass_piece<M: Mother, F: Filter<Word = M::Word>>(
     cover: &mut Cover<M, F>,
@@ -27,8 +18,8 @@ fn pass_piece<M: Mother, F: Filter<Word = M::Word>>(
     requires { n ≤ 4096 }
     ensures { Passes (means M.Mother) F.Filter cover.old n result cover.new }
 {
-    let mut scratch = [0u8; 4096];
-    let _ = cover.cover(&mut scratch[0..n])?;
+    let mut scratch = [0; PIECE as usize];
+    let _ = cover.cover(&mut scratch[..n])?;
     Ok(())
 }
 
@@ -39,13 +30,10 @@ fn pass<M: Mother, F: Filter<Word = M::Word>>(
 ) -> Result<(), Refusal>
     ensures { Passes (means M.Mother) F.Filter cover.old count result cover.new }
 {
-    let mut left = count;
-    while left > 0 {
-        let n = left.min(PIECE);
-        pass_piece(cover, n as usize)?;
-        left -= n;
+    for _ in 0..count / PIECE {
+        pass_piece(cover, PIECE as usize)?;
     }
-    Ok(())
+    pass_piece(cover, (count % PIECE) as usize)
 }
 
 // Writes the keystream bytes of a key and an IV, from position `from` on, over `out`.
@@ -68,7 +56,7 @@ pub fn keystream<M: Mother + Drop, F: Filter<Word = M::Word>>(
         return Ok(());
     }
     pass(&mut cover, from)?;
-    clear(out);
+    out.fill(0);
     let _ = cover.cover(out)?;
     Ok(())
 }

@@ -1,26 +1,22 @@
-ghost use Rattle.std.specs.Prelude.{◌+◌, ◌^◌, ◌≤◌};
+ghost use Rattle.std.specs.Prelude.{◌^◌, ◌≤◌};
 
-// How far a cover has come: the position of the next byte, and where the unused bytes of the block
-// made last begin and how many they are.
-#[derive(Clone, Copy)]
-pub struct Progress {
-    pub position: u64,
-    pub from: usize,
-    pub left: usize,
-    ghost low: { position ≤ 2 ^ 32 },
-    ghost inside: { from + left ≤ 16 },
+use crate::rest::Rest;
+
+// The memory that a cover keeps. A word is asked for when a block needs it, and not before.
+#[derive(Drop)]
+pub enum Kept<Y> {
+    // the first of all, with which the first block begins
+    First(Y),
+    // the last of the block made last; the next block begins one word after it
+    Last(Y),
 }
 
-// The memory, and the block made last.
-#[derive(Clone, Copy)]
-pub struct Made<Y> {
-    pub memory: Y,
-    pub block: [u8; 16],
-}
-
-// What a cover keeps between two calls, besides its generator.
-#[derive(Clone, Copy)]
+// What a cover keeps between two calls, besides its generator: the position of the next byte, the
+// bytes of the block made last that are not used yet, and a memory.
+#[derive(Drop)]
 pub struct Stage<Y> {
-    pub made: Made<Y>,
-    pub progress: Progress,
+    pub position: u64,
+    pub rest: Rest,
+    pub memory: Kept<Y>,
+    ghost low: { position ≤ 2 ^ 32 },
 }

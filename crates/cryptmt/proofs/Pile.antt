@@ -5,20 +5,18 @@ use Rattle.row.specs.declared.Row.{Row}
 use Rattle.row.specs.Rows.{lane_in}
 use Rattle.row.specs.Bytes.{row_bytes}
 use Rattle.mother.specs.Generators.{Words, Lawful}
-use Rattle.keystream.specs.declared.narrow.Narrow as plain
-use Rattle.keystream.specs.declared.narrow.NarrowOdd as odd
+use Rattle.keystream.specs.declared.narrow.NarrowFilter as by
 use Rattle.keystream.specs.Keystreams.{memory, block_bytes, byte_at}
-use Rattle.row.specs.Lanes.{◌⊗◌}
-use Rattle.keystream.specs.Narrows.{multiplied, top_byte}
+use Rattle.keystream.specs.Narrows.{top_byte}
 use Rattle.keystream.specs.Wides.{output}
 use Rattle.booter.specs.Sequences as booter
 use Rattle.booter.proofs.Loads.{sequences_stand}
 use Rattle.handover.specs.Recursion as recursion
 use Rattle.handover.proofs.Rows.{first_row, first_rows, later_rows, words_early, words_late}
 use Rattle.lanes.specs.Order.{in_lanes}
-use Rattle.cryptmt.specs.Equations.{Rows, Generated, Sequences, CryptMT, Narrows, Narrow, narrow_byte_of}
+use Rattle.cryptmt.specs.Equations.{Rows, Generated, Sequences, CryptMT, Narrows, Narrow}
 use Rattle.cryptmt.specs.Wide.{wide, wide_words, WideIsCryptMT}
-use Rattle.cryptmt.specs.Narrow.{narrow, lane_words, NarrowIsDefined, OddIsDefined}
+use Rattle.cryptmt.specs.Narrow.{narrow, lane_words, FilterIsDefined}
 use Rattle.cryptmt.proofs.Unique.{output_same, narrow_same}
 
 -- of a key and an IV
@@ -55,10 +53,7 @@ generated key iv lk li =
 abbrev pub sequences : List ℕ → List ℕ → Sequences
 sequences key iv =
     record {
-      b = booter.x key iv;
-      a = booter.a key iv;
-      w = (wide_words key iv).word;
-      x = recursion.x (booter.words key iv).word;
+      below = below key iv;
       y = memory wide (wide_words key iv);
       z = λ i. output (memory wide (wide_words key iv) (2 * i)) (memory wide (wide_words key iv) (2 * i + 1));
     }
@@ -66,21 +61,8 @@ sequences key iv =
 pub equations_stand : (key iv : List ℕ) → Lawful key → Lawful iv → CryptMT key iv (sequences key iv)
 unfolding output
 equations_stand key iv lk li =
-    let g = generated key iv lk li in
     record {
-      iv_first = g.iv_first;
-      key_first = g.key_first;
-      iv_second = g.iv_second;
-      key_second = g.key_second;
-      last = g.last;
-      turn_first = g.turn_first;
-      turn = g.turn;
-      fed_back = g.fed_back;
-      word_first = g.word_first;
-      row_marked = g.row_marked;
-      row_first = g.row_first;
-      row_next = g.row_next;
-      word_next = g.word_next;
+      generated = generated key iv lk li;
       memory_first = refl;
       memory_next = λ m. ap (memory wide (wide_words key iv)) (add-one m);
       output = λ i. refl;
@@ -100,13 +82,12 @@ even_or_odd : (p : ℕ) → ((p % 2 ≡ 0) × (2 * (p / 2) ≡ p)) ⊎ ((p % 2 �
 even_or_odd p =
     elim (cases_lt (p % 2) 1) [ inl h ↦ inl (omega arith, omega arith) | inr h ↦ inr (omega arith, omega arith) ]
 
--- with a narrow filter, whose step is f
-module _ (F : Type 0) (f : ℕ → ℕ → ℕ) (key iv : List ℕ) where
+-- with a narrow filter
+module _ {F : Type 0} (n : by.Ghosts F) (key iv : List ℕ) where
   abbrev narrows : Narrows
-  narrows =
-      record { below = below key iv; v = (lane_words key iv).word; y = memory {F = F} (narrow f) (lane_words key iv) }
+  narrows = record { below = below key iv; v = (lane_words key iv).word; y = memory (narrow {F = F} n.product) (lane_words key iv) }
 
-  narrow_stands : Lawful key → Lawful iv → Narrow f key iv narrows
+  narrow_stands : Lawful key → Lawful iv → Narrow n.product key iv narrows
   narrow_stands lk li =
       let ws = wide_words key iv in
       record {
@@ -116,26 +97,20 @@ module _ (F : Type 0) (f : ℕ → ℕ → ℕ) (key iv : List ℕ) where
         lane_2 = λ i. in_lane ws (4 * i + 2) i 2 (omega arith) (omega arith);
         lane_3 = λ i. in_lane ws (4 * i + 3) i 3 (omega arith) (omega arith);
         memory_first = refl;
-        memory_next = λ m. ap (memory {F = F} (narrow f) (lane_words key iv)) (add-one m);
+        memory_next = λ m. ap (memory (narrow {F = F} n.product) (lane_words key iv)) (add-one m);
       }
 
   -- a block has the top bytes of its two memories, so byte p is that of memory p
-  byte_is : (ws : Words ℕ) (p : ℕ) → byte_at {F = F} (narrow f) ws p ≡ top_byte (memory {F = F} (narrow f) ws p)
+  byte_is : (ws : Words ℕ) (p : ℕ) → byte_at (narrow {F = F} n.product) ws p ≡ top_byte (memory (narrow {F = F} n.product) ws p)
   byte_is ws p =
-      let at : ℕ → ℕ = λ m. top_byte (memory {F = F} (narrow f) ws m) in
-      let of : ℕ → ℕ = λ k. get_or (block_bytes {F = F} (narrow f) ws (p / 2)) k 0 in
+      let at : ℕ → ℕ = λ m. top_byte (memory (narrow {F = F} n.product) ws m) in
+      let of : ℕ → ℕ = λ k. get_or (block_bytes (narrow {F = F} n.product) ws (p / 2)) k 0 in
       elim (even_or_odd p) [ inl e ↦ ap of e.0 ∙ ap at e.1 | inr e ↦ ap of e.0 ∙ ap at e.1 ]
 
-  pub defined : Lawful key → Lawful iv
-      → ((s : Narrows) × Narrow f key iv s)
-      × ((s : Narrows) → Narrow f key iv s → (p : ℕ) → byte_at {F = F} (narrow f) (lane_words key iv) p ≡ narrow_byte_of s p)
-  defined lk li = (
-    (narrows, narrow_stands lk li),
-    λ s meets p. byte_is (lane_words key iv) p ∙ ap top_byte (narrow_same f key iv lk li narrows s (narrow_stands lk li) meets p),
-  )
-
-pub narrow_is_defined : NarrowIsDefined
-narrow_is_defined key iv = defined plain.Narrow multiplied key iv
-
-pub odd_is_defined : OddIsDefined
-odd_is_defined key iv = defined odd.NarrowOdd ◌⊗◌ key iv
+pub filter_is_defined : {F : Type 0} (n : by.Ghosts F) → FilterIsDefined n
+filter_is_defined n key iv lk li = (
+  (narrows n key iv, narrow_stands n key iv lk li),
+  λ s meets p.
+      byte_is n key iv (lane_words key iv) p
+      ∙ ap top_byte (narrow_same n.product key iv lk li (narrows n key iv) s (narrow_stands n key iv lk li) meets p),
+)

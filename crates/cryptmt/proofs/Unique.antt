@@ -124,43 +124,20 @@ module _ (key iv : List ℕ) (lk : Lawful key) (li : Lawful iv) (s t : Rows) (p 
           ∙ sym (q.word_next (i - 156))
           ∙ ap t.w (sym e)
 
--- the generators' part of the sequences of the wide filter
-abbrev pub generators : Sequences → Rows
-generators s = record { b = s.b; a = s.a; w = s.w; x = s.x }
-
-pub generated_of : (key iv : List ℕ) (s : Sequences) → CryptMT key iv s → Generated key iv (generators s)
-generated_of key iv s p =
-    record {
-      iv_first = p.iv_first;
-      key_first = p.key_first;
-      iv_second = p.iv_second;
-      key_second = p.key_second;
-      last = p.last;
-      turn_first = p.turn_first;
-      turn = p.turn;
-      fed_back = p.fed_back;
-      word_first = p.word_first;
-      row_marked = p.row_marked;
-      row_first = p.row_first;
-      row_next = p.row_next;
-      word_next = p.word_next;
-    }
-
 -- with the wide filter, the memories and the output rows
 module _ (key iv : List ℕ) (lk : Lawful key) (li : Lawful iv) (s t : Sequences) (p : CryptMT key iv s) (q : CryptMT key iv t) where
-  word_same : (i : ℕ) → s.w i ≡ t.w i
-  word_same = words_same key iv lk li (generators s) (generators t) (generated_of key iv s p) (generated_of key iv t q)
+  word_same : (i : ℕ) → s.below.w i ≡ t.below.w i
+  word_same = words_same key iv lk li s.below t.below p.generated q.generated
 
-  start_same : s.b (2 * H key iv + 1) ≡ t.b (2 * H key iv + 1)
-  start_same =
-      booter_same key iv lk li (generators s) (generators t) (generated_of key iv s p) (generated_of key iv t q) (2 * H key iv + 1)
+  start_same : start_row key iv s.below ≡ start_row key iv t.below
+  start_same = booter_same key iv lk li s.below t.below p.generated q.generated (2 * H key iv + 1)
 
   memory_same : (m : ℕ) → s.y m ≡ t.y m
   memory_same zero = p.memory_first ∙ start_same ∙ sym q.memory_first
   memory_same (suc m) =
       ap s.y (sym (add-one m))
       ∙ p.memory_next m
-      ∙ ap (λ r. ps3 r ⊗₃₂ s.w m) (memory_same m)
+      ∙ ap (λ r. ps3 r ⊗₃₂ s.below.w m) (memory_same m)
       ∙ ap (λ r. ps3 (t.y m) ⊗₃₂ r) (word_same m)
       ∙ sym (q.memory_next m)
       ∙ ap t.y (add-one m)

@@ -1,4 +1,3 @@
 pub mod Equations
 pub mod Wide
-pub mod Stretches
 pub mod Narrow

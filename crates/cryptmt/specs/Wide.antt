@@ -1,21 +1,20 @@
 -- The wide keystream: the wide filter over the hand-over over the booter.
-use Rattle.std.specs.Prelude.{◌≡◌, ℕ, ◌+◌, ◌^◌, ◌<◌, ◌≤◌, ◌⊎◌, List, length, Ok, Err, Result}
+use Rattle.std.specs.Prelude.{◌≡◌, ℕ, List, Result}
 use Rattle.refusal.specs.declared.Refusal.{Refusal}
-use Rattle.refusal.specs.Numbers.{numbered}
 use Rattle.row.specs.declared.Row.{Row}
-use Rattle.mother.specs.Generators.{Words, Lawful, LengthsRefused}
+use Rattle.mother.specs.Generators.{Words, Lawful}
 use Rattle.booter.specs.Sequences as booter
 use Rattle.handover.specs.Recursion.{over}
 use Rattle.keystream.specs.declared.Filter.{Ghosts}
 use Rattle.keystream.specs.declared.wide.Wide.{Wide}
 use Rattle.keystream.specs.Keystreams.{byte_at}
 use Rattle.keystream.specs.Wides.{stepped, output_bytes}
-use Rattle.cover.specs.Lists.{streamed}
+use Rattle.cover.specs.Stretches.{Stretch}
 use Rattle.cryptmt.specs.Equations.{Sequences, CryptMT, byte_of}
 
 -- what the wide filter means
 abbrev pub wide : Ghosts Wide Row Row
-wide = record { first = λ start. start; step = stepped; size = 16; bytes = output_bytes }
+wide = record { first = λ start. start; step = stepped; SIZE = 16; bytes = output_bytes }
 
 -- the words of the pile
 abbrev pub wide_words : List ℕ → List ℕ → Words Row
@@ -31,9 +30,6 @@ abbrev pub WideIsCryptMT : Type 0
 WideIsCryptMT = (key iv : List ℕ) → Lawful key → Lawful iv
     → ((s : Sequences) × CryptMT key iv s) × ((s : Sequences) → CryptMT key iv s → (p : ℕ) → wide_byte key iv p ≡ byte_of s p)
 
--- a stretch of the keystream from position p on; refused by 2, then 6, then 13, and then nothing is written
+-- a stretch of the keystream from position p on
 abbrev pub WideStreams : List ℕ → List ℕ → ℕ → List ℕ → Result (Unit {0}) Refusal → List ℕ → Type 0
-WideStreams key iv p out (Ok _) out' =
-    Lawful key × Lawful iv × (p + length out ≤ 2 ^ 32) × (out' ≡ streamed (wide_byte key iv) p (length out))
-WideStreams key iv p out (Err e) out' =
-    (LengthsRefused key iv e ⊎ (Lawful key × Lawful iv × (2 ^ 32 < p + length out) × (numbered e ≡ 13))) × (out' ≡ out)
+WideStreams key iv = Stretch (wide_byte key iv) key iv

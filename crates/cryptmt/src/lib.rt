@@ -1,12 +1,13 @@
 #![tactic(auto)]
 
 ghost use Rattle.cryptmt.specs.Wide.{WideStreams, WideIsCryptMT};
-ghost use Rattle.cryptmt.specs.Narrow.{NarrowStreams, OddStreams, NarrowIsDefined, OddIsDefined};
+ghost use Rattle.cryptmt.specs.Narrow.{FilterStreams, NarrowStreams, OddStreams};
+ghost use Rattle.cryptmt.specs.Narrow.{FilterIsDefined, NarrowIsDefined, OddIsDefined};
 
 use booter::Booter;
 use cover::{Cover, range};
 use handover::Handover;
-use keystream::narrow::{Narrow, NarrowOdd};
+use keystream::narrow::{Narrow, NarrowFilter, NarrowOdd};
 use keystream::wide::Wide;
 use lanes::Lanes;
 use refusal::Refusal;
@@ -32,14 +33,29 @@ pub fn keystream(key: &[u8], iv: &[u8], from: u64, out: &mut [u8]) -> Result<(),
     range::keystream::<WidePile, Wide>(Handover::new(Booter::new()), key, iv, from, out)
 }
 
+// The same of a narrow keystream, by the product of its filter. It is not one function with `keystream`,
+// whose theorem is another: that of the cipher's own equations.
+pub fn filter_keystream<P: NarrowFilter>(
+    key: &[u8],
+    iv: &[u8],
+    from: u64,
+    out: &mut [u8],
+) -> Result<(), Refusal>
+    ensures bytes { FilterStreams P.NarrowFilter key.now iv.now from out.old
+        result out.new }
+    ensures cipher { FilterIsDefined P.NarrowFilter }
+{
+    let pile = Lanes::new(Handover::new(Booter::new()));
+    range::keystream::<LanePile, P>(pile, key, iv, from, out)
+}
+
 // The same of the narrow keystream.
 pub fn narrow_keystream(key: &[u8], iv: &[u8], from: u64, out: &mut [u8]) -> Result<(), Refusal>
     ensures bytes { NarrowStreams key.now iv.now from out.old
         result out.new }
     ensures cipher { NarrowIsDefined }
 {
-    let pile = Lanes::new(Handover::new(Booter::new()));
-    range::keystream::<LanePile, Narrow>(pile, key, iv, from, out)
+    filter_keystream::<Narrow>(key, iv, from, out)
 }
 
 // The same of the narrow keystream with the odd product.
@@ -48,8 +64,7 @@ pub fn odd_keystream(key: &[u8], iv: &[u8], from: u64, out: &mut [u8]) -> Result
         result out.new }
     ensures cipher { OddIsDefined }
 {
-    let pile = Lanes::new(Handover::new(Booter::new()));
-    range::keystream::<LanePile, NarrowOdd>(pile, key, iv, from, out)
+    filter_keystream::<NarrowOdd>(key, iv, from, out)
 }
 
 #[cfg(test)]

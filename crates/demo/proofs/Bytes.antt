@@ -1,22 +1,9 @@
 -- Addresses and their bytes, there and back.
-use Rattle.std.proofs.Common.{◌≡◌, ℕ, suc, ◌+◌, ◌*◌, ◌/◌, ◌%◌, ◌^◌, ◌<◌, ◌⊎◌, List, [], ◌∷◌, ◌++◌, map, length, get_or, take, sym, refl, ap, ◌∙◌, inl, inr, arith}
+use Rattle.std.proofs.Common.{◌≡◌, ℕ, suc, ◌+◌, ◌*◌, ◌/◌, ◌%◌, ◌^◌, ◌<◌, List, [], ◌∷◌, ◌++◌, map, length, get_or, sym, refl, ap, ◌∙◌, arith}
 use Rattle.std.proofs.lemmas.Nat.{shr-shr}
-use Rattle.std.proofs.lemmas.List.{take_more, map_more}
 use Rattle.std.specs.Simd.{first_chunks}
-use Rattle.row.specs.Bytes.{lane_bytes, lane_of, lane_at}
-use Rattle.demo.specs.Addresses.{bytes_of, addresses_of, BytesBack, agreed}
-
-bytes_of-++ : (xs ys : List ℕ) → bytes_of (xs ++ ys) ≡ bytes_of xs ++ bytes_of ys
-bytes_of-++ [] ys = refl
-bytes_of-++ (x ∷ xs) ys = ap (λ t. lane_bytes x ++ t) (bytes_of-++ xs ys)
-
--- one address more
-pub bytes_more : (out out' xs : List ℕ) (i : ℕ) → i < length xs → out ≡ bytes_of (take i xs)
-    → out' ≡ out ++ lane_bytes (get_or xs i 0) → out' ≡ bytes_of (take (i + 1) xs)
-bytes_more out out' xs i h e n =
-    n
-    ∙ ap (λ t. t ++ lane_bytes (get_or xs i 0)) e
-    ∙ sym (ap bytes_of (take_more xs i 0 h) ∙ bytes_of-++ (take i xs) (get_or xs i 0 ∷ []))
+use Rattle.row.specs.Bytes.{lane_bytes, lane_of}
+use Rattle.demo.specs.Addresses.{bytes_of, of_four, addresses_of, BytesBack}
 
 nested : (x : ℕ) → x < 2 ^ 32 → lane_of (x % 256) (x / 256 % 256) (x / 256 / 256 % 256) (x / 256 / 256 / 256 % 256) ≡ x
 nested x h = omega arith
@@ -58,10 +45,6 @@ bytes_back (a ∷ b ∷ c ∷ d ∷ bs) h m =
     ap (λ t. t ++ bytes_of (addresses_of bs)) (four_back a b c d (h 0) (h 1) (h 2) (h 3))
     ∙ ap (λ t. a ∷ b ∷ c ∷ d ∷ t) (bytes_back bs (λ k. h (suc (suc (suc (suc k))))) (omega arith))
 
--- the address that four bytes are
-abbrev pub of_four : List ℕ → ℕ
-of_four bs = lane_at bs 0
-
 pub of_fours : (bs : List ℕ) → map of_four (first_chunks 4 (length bs / 4) bs) ≡ addresses_of bs
 of_fours [] = refl
 of_fours (a ∷ []) = refl
@@ -70,18 +53,3 @@ of_fours (a ∷ b ∷ c ∷ []) = refl
 of_fours (a ∷ b ∷ c ∷ d ∷ bs) =
     let e : suc (suc (suc (suc (length bs)))) / 4 ≡ suc (length bs / 4) = omega arith in
     ap (λ k. map of_four (first_chunks 4 k (a ∷ b ∷ c ∷ d ∷ bs))) e ∙ ap (λ t. lane_of a b c d ∷ t) (of_fours bs)
-
--- one address more
-pub fours_more : (out out' : List ℕ) (fours : List (List ℕ)) (i x : ℕ) → i < length fours → out ≡ map of_four (take i fours)
-    → out' ≡ out ++ x ∷ [] → x ≡ of_four (get_or fours i []) → out' ≡ map of_four (take (i + 1) fours)
-fours_more out out' fours i x h e n r =
-    n
-    ∙ ap (λ t. t ++ x ∷ []) e
-    ∙ ap (λ v. map of_four (take i fours) ++ v ∷ []) r
-    ∙ sym (map_more of_four fours i [] h)
-
-pub agreed_none : (xs ys : List ℕ) → (xs ≡ []) ⊎ (ys ≡ []) → agreed xs ys ≡ 0
-agreed_none [] ys h = refl
-agreed_none (x ∷ xs) [] h = refl
-agreed_none (x ∷ xs) (y ∷ ys) (inl e) = absurd (omega (arith, ap length e))
-agreed_none (x ∷ xs) (y ∷ ys) (inr e) = absurd (omega (arith, ap length e))

@@ -1,10 +1,13 @@
 -- Addresses of 32 bits as bytes, four each, the low byte first.
-use Rattle.std.specs.Prelude.{◌≡◌, ℕ, ◌+◌, ◌%◌, cond, List, [], ◌∷◌, ◌++◌, length, ◌==◌}
-use Rattle.row.specs.Bytes.{lane_bytes, lane_of}
+use Rattle.std.specs.Prelude.{◌≡◌, ℕ, ◌%◌, List, [], ◌∷◌, length, count_by, flat_map, zip, ◌==◌}
+use Rattle.row.specs.Bytes.{lane_bytes, lane_of, lane_at}
 
 abbrev pub bytes_of : List ℕ → List ℕ
-bytes_of [] = []
-bytes_of (x ∷ xs) = lane_bytes x ++ bytes_of xs
+bytes_of addresses = flat_map lane_bytes addresses
+
+-- the address that four bytes are
+abbrev pub of_four : List ℕ → ℕ
+of_four bytes = lane_at bytes 0
 
 -- bytes past the last four are left out
 abbrev pub addresses_of : List ℕ → List ℕ
@@ -20,6 +23,4 @@ BytesBack bs xs = length bs % 4 ≡ 0 → bytes_of xs ≡ bs
 
 -- how many addresses stand at the same place in both
 abbrev pub agreed : List ℕ → List ℕ → ℕ
-agreed [] ys = 0
-agreed (x ∷ xs) [] = 0
-agreed (x ∷ xs) (y ∷ ys) = cond (x == y) 1 0 + agreed xs ys
+agreed xs ys = count_by (λ p. p.0 == p.1) (zip xs ys)

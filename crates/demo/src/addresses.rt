@@ -1,5 +1,5 @@
-ghost use Rattle.std.specs.Prelude.{◌≡◌, IfOk};
-ghost use Rattle.demo.specs.Addresses.{bytes_of, addresses_of, BytesBack, agreed};
+ghost use Rattle.std.specs.Prelude.{◌≡◌, map, IfOk};
+ghost use Rattle.demo.specs.Addresses.{bytes_of, of_four, addresses_of, BytesBack, agreed};
 
 use std::alloc::{AllocError, Global};
 
@@ -15,28 +15,28 @@ pub fn to_bytes(heap: Global, addresses: &[u32]) -> Result<Vec<u8>, AllocError>
     Ok(bytes)
 }
 
-// The addresses that each four bytes are.
+// The address that each four bytes are.
+fn words(heap: Global, fours: &[[u8; 4]]) -> Result<Vec<u32>, AllocError>
+    ensures { IfOk result (λ v. v.items ≡ map of_four fours.now) }
+{
+    fours
+        .iter()
+        .map(|four| u32::from_le_bytes(*four))
+        .collect(heap)
+}
+
+// The addresses that each four bytes are; bytes past the last four are left out.
 pub fn from_bytes(heap: Global, bytes: &[u8]) -> Result<Vec<u32>, AllocError>
     ensures addresses { IfOk result (λ v. v.items ≡ addresses_of bytes.now) }
     ensures undone { IfOk result (λ v. BytesBack bytes.now v.items) }
 {
-    let mut addresses = Vec::new(heap);
     let (fours, _rest) = bytes.as_chunks::<4>();
-    for four in fours {
-        addresses.push(u32::from_le_bytes(*four))?;
-    }
-    Ok(addresses)
+    words(heap, fours)
 }
 
 // How many addresses came back: those that stand where they stood.
 pub fn agreeing(sent: &[u32], back: &[u32]) -> usize
     ensures { result ≡ agreed sent.now back.now }
 {
-    let mut n = 0;
-    for (a, b) in sent.iter().zip(back.iter()) {
-        if *a == *b {
-            n += 1;
-        }
-    }
-    n
+    sent.iter().zip(back).filter(|(a, b)| **a == **b).count()
 }

@@ -6,7 +6,7 @@ use std::io;
 #[derive(Debug, Drop)]
 pub enum Fault {
     Refused(Refusal),
-    NoMemory,
+    NoMemory(AllocError),
     Io(io::Error),
 }
 
@@ -17,13 +17,27 @@ impl From<Refusal> for Fault {
 }
 
 impl From<AllocError> for Fault {
-    fn from(_e: AllocError) -> Fault {
-        Fault::NoMemory
+    fn from(e: AllocError) -> Fault {
+        Fault::NoMemory(e)
     }
 }
 
 impl From<io::Error> for Fault {
     fn from(e: io::Error) -> Fault {
         Fault::Io(e)
+    }
+}
+
+impl Fault {
+    // Says why the demo stops: a refusal by its number, and want of memory as an error.
+    pub(crate) fn tell(&self, rt: &HostRuntime) -> io::Result<()> {
+        match self {
+            Fault::Refused(refusal) => {
+                let number = refusal.number();
+                println!(rt; "refused: {number}")
+            }
+            Fault::NoMemory(_) => eprintln!(rt; "no memory"),
+            Fault::Io(_) => Ok(()),
+        }
     }
 }

@@ -77,13 +77,8 @@ fn run(rt: &HostRuntime) -> Result<(), Fault> {
 
 fn main(rt: HostRuntime) -> Result<(), Fault> {
     let done = run(&rt);
-    match &done {
-        Err(Fault::Refused(refusal)) => {
-            let number = refusal.number();
-            println!(rt; "refused: {number}")?;
-        }
-        Err(Fault::NoMemory) => eprintln!(rt; "no memory")?,
-        _ => {}
+    if let Err(fault) = &done {
+        fault.tell(&rt)?;
     }
     done
 }

@@ -1,3 +1,2 @@
-pub mod Decimals
+pub mod Gathering
 pub mod Pairs
-pub mod Cutting

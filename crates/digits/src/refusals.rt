@@ -8,6 +8,5 @@ use std::alloc::{AllocError, Global};
 pub fn refusal_text(heap: Global, refusal: Refusal) -> Result<Vec<u8>, AllocError>
     ensures { IfOk result (λ text. text.items ≡ refusal_text refusal) }
 {
-    let number = refusal.number();
-    Ok(format!(in heap; "no {number}")?.into_bytes())
+    Ok(format!(in heap; "no {refusal}")?.into_bytes())
 }

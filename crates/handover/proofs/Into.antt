@@ -1,30 +1,19 @@
 -- Steps on, one after another, with indices outside the ring.
-use Rattle.std.proofs.Common.{◌≡◌, ℕ, ◌+◌, ◌-◌, ◌<◌, ◌≤◌, List, length, get_or, set, sym, refl, ap, ◌∙◌, subst, ⊎_elim, arith, get_or-set_other, get_or-set_same, below_more}
+use Rattle.std.proofs.Common.{◌≡◌, ℕ, ◌+◌, ◌<◌, ◌≤◌, List, length, get_or, set, sym, refl, ap, ◌∙◌, subst, arith, get_or-set_other, get_or-set_same, below_more}
 use Rattle.std.proofs.lemmas.List.{length-set}
-use Rattle.std.proofs.lemmas.Bool.{cases_lt}
 use Rattle.row.specs.declared.Row.{Row}
 use Rattle.row.specs.Rows.{zeros, step_row}
 use Rattle.handover.specs.declared.ring.Ring.{Ring}
 use Rattle.handover.specs.Recursion.{mask, later, x}
 use Rattle.handover.specs.Rings.{wrap, kth, newer, onwards, HeldAt}
 use Rattle.handover.specs.Calls.{Held, Turning, TurnedInto}
-use Rattle.handover.proofs.Turns.{wrap_low, wrap_high, wrap_below, wrap_more, wrap_first, wrap_zero}
+use Rattle.row.proofs.Wraps.{wrap_ways, wrap_below, wrap_more, wrap_first, wrap_zero}
 use Rattle.handover.proofs.Places.{held_onwards, held_same}
 use Rattle.handover.proofs.Moves.{word_late}
 
 -- an index that goes on by one stays as far behind the head
 wrap_next : (n : ℕ) → n < 311 → wrap (wrap n + 1) ≡ wrap (n + 1)
-wrap_next n h = ⊎_elim low high (cases_lt n 156)
-  where
-    low : n < 156 → wrap (wrap n + 1) ≡ wrap (n + 1)
-    low l = ap (λ k. wrap (k + 1)) (wrap_low n l)
-
-    high : 156 ≤ n → wrap (wrap n + 1) ≡ wrap (n + 1)
-    high l =
-        ap (λ k. wrap (k + 1)) (wrap_high n l)
-        ∙ wrap_low (n - 156 + 1) (omega arith)
-        ∙ omega arith
-        ∙ sym (wrap_high (n + 1) (omega arith))
+wrap_next n h = grind (arith, wrap_ways 156 n, wrap_ways 156 (wrap n + 1), wrap_ways 156 (n + 1))
 
 pub turning_none : (s : Ring) (words : List Row) (middle : ℕ) (newest : Row) → middle < 156 → middle ≡ wrap (s.head + 108) → newest ≡ kth s.rows s.head 155
     → Turning s s.rows s.head middle newest 0 words
@@ -44,14 +33,10 @@ module _ (s : Ring) (rows : List Row) (head middle : ℕ) (newest new : Row) (i 
     (t : Turning s rows head middle newest i words) (lt : i < length words)
     (made : new ≡ step_row mask newest (get_or rows middle zeros) (get_or rows head zeros)) where
   is_newer : new ≡ newer rows head
-  is_newer =
-      made
-      ∙ ap (λ r. step_row mask r (get_or rows middle zeros) (get_or rows head zeros)) t.is_newest
-      ∙ ap (λ j. step_row mask (kth rows head 155) (get_or rows j zeros) (get_or rows head zeros)) t.is_middle
-      ∙ ap (λ j. step_row mask (kth rows head 155) (kth rows head 108) (get_or rows j zeros)) (sym (wrap_zero head t.inside))
+  is_newer = cc (wrap_zero 156 head t.inside)
 
   are_onwards : set rows head new ≡ onwards rows head
-  are_onwards = ap (λ j. set rows j new) (sym (wrap_zero head t.inside)) ∙ ap (set rows (wrap (head + 0))) is_newer
+  are_onwards = cc (wrap_zero 156 head t.inside, is_newer)
 
   on : (w : ℕ → Row) (n : ℕ) → 156 ≤ n → Held w s n
       → (newer rows head ≡ x w (n + i + 1)) × HeldAt w (onwards rows head) (wrap (head + 1)) (n + i + 1)
@@ -60,12 +45,12 @@ module _ (s : Ring) (rows : List Row) (head middle : ℕ) (newest new : Row) (i 
   turning_more : Turning s (set rows head new) (wrap (head + 1)) (wrap (middle + 1)) new (i + 1) (set words i new)
   turning_more =
       record {
-        inside = wrap_below (head + 1) (omega (arith, t.inside));
+        inside = wrap_below 156 (head + 1) (omega (arith, t.inside));
         full = length-set rows head new ∙ t.full;
-        below = wrap_below (middle + 1) (omega (arith, t.below));
+        below = wrap_below 156 (middle + 1) (omega (arith, t.below));
         is_middle = ap (λ k. wrap (k + 1)) t.is_middle ∙ wrap_next (head + 108) (omega (arith, t.inside))
-            ∙ ap wrap (omega arith) ∙ sym (wrap_more head 108 t.inside (omega arith));
-        is_newest = sym (ap (λ j. get_or (set rows head new) j zeros) (wrap_first head t.inside)
+            ∙ ap wrap (omega arith) ∙ sym (wrap_more 156 head 108 t.inside (omega arith));
+        is_newest = sym (ap (λ j. get_or (set rows head new) j zeros) (wrap_first 156 head t.inside)
             ∙ get_or-set_same rows head new zeros (omega (arith, t.inside, t.full)));
         held = λ w n l h.
             subst (HeldAt w (set rows head new) (wrap (head + 1))) (omega arith)
@@ -82,9 +67,7 @@ pub turning_next : (s : Ring) (rows : List Row) (head middle head' middle' : ℕ
     → new ≡ step_row mask newest (get_or rows middle zeros) (get_or rows head zeros) → head' ≡ wrap (head + 1) → middle' ≡ wrap (middle + 1)
     → Turning s (set rows head new) head' middle' new (i + 1) (set words i new)
 turning_next s rows head middle head' middle' newest new i words t lt made e f =
-    subst (λ j. Turning s (set rows head new) j middle' new (i + 1) (set words i new)) (sym e)
-    (subst (λ j. Turning s (set rows head new) (wrap (head + 1)) j new (i + 1) (set words i new)) (sym f)
-    (turning_more s rows head middle newest new i words t lt made))
+    rw (e, f) (turning_more s rows head middle newest new i words t lt made)
 
 pub turned_into : (s t : Ring) (middle : ℕ) (newest : Row) (i : ℕ) (words : List Row) → i ≡ length words
     → Turning s t.rows t.head middle newest i words → TurnedInto s t words

@@ -1,17 +1,9 @@
 -- What the ring holds, from place to place.
-use Rattle.std.proofs.Common.{◌≡◌, ℕ, ◌+◌, ◌-◌, ◌<◌, ◌≤◌, List, length, set, sym, ap, ◌∙◌, subst, arith}
+use Rattle.std.proofs.Common.{◌≡◌, ℕ, ◌+◌, ◌-◌, ◌<◌, ◌≤◌, List, length, set, ap, ◌∙◌, subst, arith}
 use Rattle.row.specs.declared.Row.{Row}
-use Rattle.handover.specs.Recursion.{marked, x}
+use Rattle.handover.specs.Recursion.{x}
 use Rattle.handover.specs.Rings.{wrap, kth, newer, onwards, backwards, Kept, HeldAt}
-use Rattle.handover.proofs.Rows.{first_row, first_rows}
 use Rattle.handover.proofs.Turns.{kept_onwards, kept_backwards, kept_more, kept_fewer}
-
--- a recorded word is a row of the recursion
-pub seeded_first : (w : ℕ → Row) (n : ℕ) (word : Row) → n ≡ 0 → word ≡ w n → marked word ≡ x w n
-seeded_first w n word z e = let f = first_row w in ap marked (e ∙ ap w z) ∙ sym f ∙ ap (x w) (sym z)
-
-pub seeded_other : (w : ℕ → Row) (n : ℕ) (word : Row) → (n ≡ 0 → ⊥) → n < 156 → word ≡ w n → word ≡ x w n
-seeded_other w n word z h e = e ∙ sym (first_rows w n (omega arith) h)
 
 kept_at : (w : ℕ → Row) (rows : List Row) (head f g n : ℕ) → f ≡ g → Kept w rows head f n → Kept w rows head g n
 kept_at w rows head f g n e k = let P : ℕ → Type 0 = λ i. Kept w rows head i n in subst P e k
@@ -77,14 +69,8 @@ unfolding Kept
 held_none w rows head = record { early = λ _ k l. absurd (omega arith); late = λ q. absurd (omega arith) }
 
 pub held_same : (w : ℕ → Row) (rows rows' : List Row) (head head' n : ℕ) → rows' ≡ rows → head' ≡ head → HeldAt w rows head n → HeldAt w rows' head' n
-held_same w rows rows' head head' n e f k =
-    let P : List Row → Type 0 = λ r. HeldAt w r head n in
-    let Q : ℕ → Type 0 = λ i. HeldAt w rows' i n in
-    subst Q (sym f) (subst P (sym e) k)
+held_same w rows rows' head head' n e f k = rw (e, f) k
 
 pub kept_same : (w : ℕ → Row) (rows rows' : List Row) (head head' n : ℕ) → rows' ≡ rows → head' ≡ head
     → Kept w rows head 0 n → Kept w rows' head' 0 n
-kept_same w rows rows' head head' n e f k =
-    let P : List Row → Type 0 = λ r. Kept w r head 0 n in
-    let Q : ℕ → Type 0 = λ i. Kept w rows' i 0 n in
-    subst Q (sym f) (subst P (sym e) k)
+kept_same w rows rows' head head' n e f k = rw (e, f) k

@@ -3,7 +3,7 @@ use Rattle.std.proofs.Common.{◌≡◌, ℕ, zero, suc, ◌+◌, ◌<◌, sym, 
 use Rattle.std.proofs.lemmas.Bool.{cond-true, cond-false, lt-ltb, le-ltb}
 use Rattle.row.specs.declared.Row.{Row}
 use Rattle.row.specs.Rows.{row, zeros, step_row, mix_row, ◌>>₆₄◌}
-use Rattle.handover.specs.Recursion.{mask, window, x, FirstRow, FirstRows, LaterRows, WordsEarly, WordsLate}
+use Rattle.handover.specs.Recursion.{mask, seed, window, x, FirstRow, FirstRows, LaterRows, WordsEarly, WordsLate}
 
 pub window_shifts : (w : ℕ → Row) (j k : ℕ) → k < 155 → window w (suc j) k ≡ window w j (suc k)
 unfolding window
@@ -25,10 +25,14 @@ pub first_row : FirstRow
 unfolding x window
 first_row w = refl
 
-pub first_rows : FirstRows
+-- the rows below 156 are those recorded
+pub row_seeded : (w : ℕ → Row) (i : ℕ) → i < 156 → x w i ≡ seed w i
 unfolding window
-first_rows w zero p h = let no : ⊥ = omega arith in absurd no
-first_rows w (suc i) p h = ap (x w) (sym (zero-add (suc i))) ∙ sym (window_is w 0 (suc i) h)
+row_seeded w i h = ap (x w) (sym (zero-add i)) ∙ sym (window_is w 0 i h)
+
+pub first_rows : FirstRows
+first_rows w zero p h = absurd (omega arith)
+first_rows w (suc i) p h = row_seeded w (suc i) h
 
 -- by its three rows
 pub recursion : (w : ℕ → Row) (j : ℕ) → x w (j + 156) ≡ step_row mask (x w (j + 155)) (x w (j + 108)) (x w (j + 0))

@@ -1,77 +1,44 @@
 -- What a turn of the ring does.
-use Rattle.std.proofs.Common.{◌≡◌, ℕ, ◌+◌, ◌-◌, ◌<◌, ◌≤◌, ◌≢◌, ◌⊎◌, List, length, get_or, set, sym, ap, ◌∙◌, inl, inr, arith}
-use Rattle.std.proofs.lemmas.Bool.{cond-true, cond-false, lt-ltb, le-ltb, cases_lt}
+use Rattle.std.proofs.Common.{◌≡◌, ℕ, ◌+◌, ◌-◌, ◌<◌, ◌≤◌, ◌≢◌, List, length, get_or, set, sym, ap, ◌∙◌, inl, inr, arith}
+use Rattle.std.proofs.lemmas.Bool.{cases_lt}
 use Rattle.std.proofs.lemmas.List.{get_or-set_same, get_or-set_other, set-set, set-get_or}
 use Rattle.row.specs.declared.Row.{Row}
 use Rattle.row.specs.Rows.{zeros, step_row}
 use Rattle.row.specs.Undone.{unstep_row}
 use Rattle.row.proofs.StepLaws.{step_undone, undone_stepped}
+use Rattle.row.proofs.Wraps.{wrap_below, wrap_zero, wrap_more, wrap_first, wrap_less, wrap_last, wrap_apart}
 use Rattle.handover.specs.Recursion.{mask, x}
 use Rattle.handover.specs.Rings.{wrap, kth, newer, older, onwards, backwards, StepThereAndBack, StepBackAndThere, Kept}
 use Rattle.handover.proofs.Rows.{recursion}
-
-pub wrap_low : (n : ℕ) → n < 156 → wrap n ≡ n
-unfolding wrap
-wrap_low n h = cond-true _ _ _ (lt-ltb n 156 h)
-
-pub wrap_high : (n : ℕ) → 156 ≤ n → wrap n ≡ n - 156
-unfolding wrap
-wrap_high n h = cond-false _ _ _ (le-ltb n 156 h)
-
--- the two ways that an index goes
-wrap_ways : (n : ℕ) → ((n < 156) × (wrap n ≡ n)) ⊎ ((156 ≤ n) × (wrap n + 156 ≡ n))
-wrap_ways n =
-    elim (cases_lt n 156) [ inl h ↦ inl (h, wrap_low n h) | inr h ↦ inr (h, omega (arith, wrap_high n h)) ]
-
-pub wrap_below : (n : ℕ) → n < 312 → wrap n < 156
-wrap_below n h = elim (wrap_ways n) [ inl e ↦ omega arith | inr e ↦ omega arith ]
-
--- an index k of the ring turned by one is k + 1 of the ring before
-pub wrap_more : (head k : ℕ) → head < 156 → k < 155 → wrap (wrap (head + 1) + k) ≡ wrap (head + (k + 1))
-wrap_more head k h l = grind (arith, wrap_ways (head + 1), wrap_ways (wrap (head + 1) + k), wrap_ways (head + (k + 1)))
-
-pub wrap_first : (head : ℕ) → head < 156 → wrap (wrap (head + 1) + 155) ≡ head
-wrap_first head h = grind (arith, wrap_ways (head + 1), wrap_ways (wrap (head + 1) + 155))
-
--- an index k + 1 of the ring turned back by one is k of the ring before
-pub wrap_less : (head k : ℕ) → head < 156 → k < 155 → wrap (wrap (head + 155) + (k + 1)) ≡ wrap (head + k)
-wrap_less head k h l = grind (arith, wrap_ways (head + 155), wrap_ways (wrap (head + 155) + (k + 1)), wrap_ways (head + k))
-
-pub wrap_zero : (head : ℕ) → head < 156 → wrap (head + 0) ≡ head
-wrap_zero head h = grind (arith, wrap_ways (head + 0))
-
--- two places less than a turn apart differ
-pub wrap_apart : (head i k : ℕ) → head < 156 → i < k → k < 156 → wrap (head + i) ≢ wrap (head + k)
-wrap_apart head i k h a b e = grind (arith, wrap_ways (head + i), wrap_ways (head + k))
 
 -- a ring turned on by one
 module _ (rows : List Row) (head : ℕ) (len : length rows ≡ 156) (h : head < 156) where
   pub kth_onwards : (k : ℕ) → k < 155 → kth (onwards rows head) (wrap (head + 1)) k ≡ kth rows head (k + 1)
   kth_onwards k l =
-      let e = wrap_more head k h l in
-      let ne : wrap (head + (k + 1)) ≢ wrap (head + 0) = λ q. wrap_apart head 0 (k + 1) h (omega arith) (omega arith) (sym q) in
+      let e = wrap_more 156 head k h (omega arith) in
+      let ne : wrap (head + (k + 1)) ≢ wrap (head + 0) = λ q. wrap_apart 156 head 0 (k + 1) h (omega arith) (omega arith) (sym q) in
       ap (λ i. get_or (onwards rows head) i zeros) e
       ∙ get_or-set_other rows (wrap (head + 0)) (wrap (head + (k + 1))) (newer rows head) zeros ne
 
   pub last_onwards : kth (onwards rows head) (wrap (head + 1)) 155 ≡ newer rows head
   last_onwards =
-      let e : wrap (wrap (head + 1) + 155) ≡ wrap (head + 0) = wrap_first head h ∙ sym (wrap_zero head h) in
-      let l : wrap (head + 0) < length rows = omega (arith, wrap_below (head + 0) (omega arith)) in
+      let e : wrap (wrap (head + 1) + 155) ≡ wrap (head + 0) = wrap_first 156 head h ∙ sym (wrap_zero 156 head h) in
+      let l : wrap (head + 0) < length rows = omega (arith, wrap_below 156 (head + 0) (omega arith)) in
       ap (λ i. get_or (onwards rows head) i zeros) e ∙ get_or-set_same rows (wrap (head + 0)) (newer rows head) zeros l
 
   -- and back by one
   pub kth_backwards : (k : ℕ) → k < 155 → kth (backwards rows head) (wrap (head + 155)) (k + 1) ≡ kth rows head k
   kth_backwards k l =
-      let e = wrap_less head k h l in
-      let ne : wrap (head + k) ≢ wrap (head + 155) = wrap_apart head k 155 h l (omega arith) in
+      let e = wrap_less 156 head k h (omega arith) in
+      let ne : wrap (head + k) ≢ wrap (head + 155) = wrap_apart 156 head k 155 h l (omega arith) in
       ap (λ i. get_or (backwards rows head) i zeros) e
       ∙ get_or-set_other rows (wrap (head + 155)) (wrap (head + k)) (older rows head) zeros ne
 
   pub first_backwards : kth (backwards rows head) (wrap (head + 155)) 0 ≡ older rows head
   first_backwards =
-      let b : wrap (head + 155) < 156 = wrap_below (head + 155) (omega arith) in
+      let b : wrap (head + 155) < 156 = wrap_below 156 (head + 155) (omega arith) in
       let l : wrap (head + 155) < length rows = omega arith in
-      ap (λ i. get_or (backwards rows head) i zeros) (wrap_zero (wrap (head + 155)) b)
+      ap (λ i. get_or (backwards rows head) i zeros) (wrap_zero 156 (wrap (head + 155)) b)
       ∙ get_or-set_same rows (wrap (head + 155)) (older rows head) zeros l
 
 -- a step back gives the row that a step on put away
@@ -86,15 +53,12 @@ older_onwards rows head len h =
 
 pub step_there_and_back : StepThereAndBack
 step_there_and_back rows head len h =
-    let e = wrap_first head h in
-    let z = wrap_zero head h in
+    let e = wrap_first 156 head h in
+    let z = wrap_zero 156 head h in
     let o = older_onwards rows head len h in
     let s = set-set rows (wrap (head + 0)) (newer rows head) (kth rows head 0) in
     let g = set-get_or rows (wrap (head + 0)) zeros in
     (e, ap (λ i. set (onwards rows head) i (older (onwards rows head) (wrap (head + 1)))) (e ∙ sym z) ∙ ap (set (onwards rows head) (wrap (head + 0))) o ∙ s ∙ g)
-
-pub wrap_last : (head : ℕ) → head < 156 → wrap (wrap (head + 155) + 1) ≡ head
-wrap_last head h = grind (arith, wrap_ways (head + 155), wrap_ways (wrap (head + 155) + 1))
 
 newer_backwards : (rows : List Row) (head : ℕ) → length rows ≡ 156 → head < 156
     → newer (backwards rows head) (wrap (head + 155)) ≡ kth rows head 155
@@ -108,11 +72,11 @@ newer_backwards rows head len h =
 pub step_back_and_there : StepBackAndThere
 step_back_and_there rows head len h =
     let p : ℕ = wrap (head + 155) in
-    let z : wrap (p + 0) ≡ p = wrap_zero p (wrap_below (head + 155) (omega arith)) in
+    let z : wrap (p + 0) ≡ p = wrap_zero 156 p (wrap_below 156 (head + 155) (omega arith)) in
     let n = newer_backwards rows head len h in
     let s = set-set rows p (older rows head) (kth rows head 155) in
     let g = set-get_or rows p zeros in
-    (wrap_last head h, ap (λ i. set (backwards rows head) i (newer (backwards rows head) p)) z ∙ ap (set (backwards rows head) p) n ∙ s ∙ g)
+    (wrap_last 156 head h, ap (λ i. set (backwards rows head) i (newer (backwards rows head) p)) z ∙ ap (set (backwards rows head) p) n ∙ s ∙ g)
 
 -- what the ring holds of the recursion
 pub kept_onwards : (w : ℕ → Row) (rows : List Row) (head f : ℕ) → length rows ≡ 156 → head < 156
@@ -163,10 +127,10 @@ pub kept_more : (w : ℕ → Row) (rows : List Row) (head n : ℕ) (r : Row) →
 unfolding Kept
 kept_more w rows head n r len h b e kept k l = elim (cases_lt k n) [
   | inl s ↦
-      get_or-set_other rows (wrap (head + n)) (wrap (head + k)) r zeros (wrap_apart head k n h s b) ∙ kept k s
+      get_or-set_other rows (wrap (head + n)) (wrap (head + k)) r zeros (wrap_apart 156 head k n h s b) ∙ kept k s
   | inr s ↦
       let same : k ≡ n = omega arith in
-      let in_range : wrap (head + n) < length rows = omega (arith, wrap_below (head + n) (omega arith)) in
+      let in_range : wrap (head + n) < length rows = omega (arith, wrap_below 156 (head + n) (omega arith)) in
       ap (λ i. get_or (set rows (wrap (head + n)) r) (wrap (head + i)) zeros) same
       ∙ get_or-set_same rows (wrap (head + n)) r zeros in_range ∙ e ∙ ap (x w) (omega arith)
 ]

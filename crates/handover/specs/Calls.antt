@@ -1,9 +1,9 @@
 -- What the calls on a ring do, and how it agrees with the generator below. Everywhere w has the words below.
-use Rattle.std.specs.Prelude.{◌≡◌, ℕ, ◌+◌, ◌-◌, ◌<◌, ◌≤◌, min, List, length, slice_index_or, slice_set}
+use Rattle.std.specs.Prelude.{◌≡◌, ℕ, ◌+◌, ◌-◌, ◌<◌, ◌≤◌, min, List, length, slice_index_or}
 use Rattle.row.specs.declared.Row.{Row}
 use Rattle.mother.specs.Generators.{Generator}
 use Rattle.handover.specs.declared.ring.Ring.{Ring}
-use Rattle.handover.specs.Recursion.{x, later}
+use Rattle.handover.specs.Recursion.{seed, later}
 use Rattle.handover.specs.Rings.{wrap, kth, newer, older, onwards, backwards, Kept, HeldAt}
 
 abbrev pub kth_of : Ring → ℕ → Row
@@ -24,16 +24,7 @@ Held w s n = HeldAt w s.rows s.head n
 
 -- the row of word n
 abbrev pub Seeded : ℕ → Row → Row → Type 0
-Seeded n word r = (w : ℕ → Row) → word ≡ w n → r ≡ x w n
-
--- a row put k after the oldest, and put as the next of those recorded
-pub record Put (s : Ring) (k : ℕ) (row : Row) (t : Ring) : Type 0 where
-  pub rows : t.rows ≡ slice_set s.rows (wrap (s.head + k)) row
-  pub head : t.head ≡ s.head
-
-pub record PutNext (s : Ring) (n : ℕ) (row : Row) (t : Ring) : Type 0 where
-  pub held : (w : ℕ → Row) → row ≡ x w n → Held w s n → n < 155 → Held w t (n + 1)
-  pub last : (w : ℕ → Row) → row ≡ x w n → Held w s n → n ≡ 155 → Recorded w t (n + 1)
+Seeded n word r = (w : ℕ → Row) → word ≡ w n → r ≡ seed w n
 
 -- a step on
 pub record TurnedOn (s : Ring) (r : Row) (t : Ring) : Type 0 where

@@ -1,13 +1,14 @@
 -- 156 rows in a ring, of which the oldest is at `head`, and its turns on and back.
-use Rattle.std.specs.Prelude.{◌≡◌, ℕ, ◌+◌, ◌-◌, ◌<◌, ◌≤◌, cond, List, length, nat_lt, slice_index_or, slice_set}
+use Rattle.std.specs.Prelude.{◌≡◌, ℕ, ◌+◌, ◌-◌, ◌<◌, ◌≤◌, List, length, slice_index_or, slice_set}
 use Rattle.row.specs.declared.Row.{Row}
 use Rattle.row.specs.Rows.{zeros, step_row}
 use Rattle.row.specs.Undone.{unstep_row}
+use Rattle.row.specs.Ring as ring
 use Rattle.handover.specs.Recursion.{mask, x}
 
 -- an index that may have passed the end once
-unfoldable pub wrap : ℕ → ℕ
-wrap n = cond (nat_lt n 156) n (n - 156)
+abbrev pub wrap : ℕ → ℕ
+wrap n = ring.wrap 156 n
 
 -- the row k after the oldest
 abbrev pub kth : List Row → ℕ → ℕ → Row

@@ -1,20 +1,21 @@
 #![tactic(auto)]
 
-ghost use Rattle.std.specs.Prelude.{◌≡◌, ℕ, ◌^◌, ◌≤◌};
+ghost use Rattle.std.specs.Prelude.{ℕ};
 ghost use Rattle.mother.specs.Means.{means};
 ghost use Rattle.handover.specs.Recursion.{later, over, FirstRow, FirstRows, LaterRows, WordsEarly, WordsLate};
 ghost use Rattle.handover.specs.Rings.{StepThereAndBack, StepBackAndThere};
 ghost use Rattle.handover.specs.Calls.{Joined, Fresh};
 
+use mother::Mother;
+use mother::place::Place;
 use mother::two_way::TwoWay;
-use mother::{LIMIT, Mother};
 use refusal::Refusal;
 use ring::Ring;
 use row::Row;
 
 mod ring;
 
-// How many of them are the words of the generator below.
+// How many words of the list are those of the generator below.
 const PASSED_ON: u64 = 156;
 
 // The hand-over: the first words are those of the generator below, which are recorded, and the
@@ -23,8 +24,7 @@ const PASSED_ON: u64 = 156;
 pub struct Handover<M: Mother<Word = Row>> {
     below: M,
     ring: Ring,
-    at: u64,
-    ghost ok: { at ≤ 2 ^ 34 },
+    at: Place,
 }
 
 impl<M: Mother<Word = Row>> Handover<M> {
@@ -35,7 +35,7 @@ impl<M: Mother<Word = Row>> Handover<M> {
         Handover {
             below,
             ring: Ring::new(),
-            at: 0,
+            at: Place::front(),
         }
     }
 }
@@ -55,70 +55,65 @@ impl<M: Mother<Word = Row>> Mother for Handover<M> {
 
     fn set_up(&mut self, key: &[u8], iv: &[u8]) -> Result<Row, Refusal> {
         let start = self.below.set_up(key, iv)?;
-        self.at = 0;
+        self.at = Place::front();
         Ok(start)
     }
 
     fn next(&mut self) -> Result<Row, Refusal> {
-        if self.at == LIMIT {
-            return Err(Refusal::PastLast);
-        }
-        if self.at < PASSED_ON {
+        let n = self.at.index();
+        let after = self.at.after()?;
+        let word = if n < PASSED_ON {
             let word = self.below.next()?;
-            self.ring.record(self.at as usize, word);
-            self.at += 1;
-            Ok(word)
+            self.ring.record(n as usize, word);
+            word
         } else {
-            let row = self.ring.forward();
-            self.at += 1;
-            Ok(row)
-        }
+            self.ring.forward()
+        };
+        self.at = after;
+        Ok(word)
     }
 
-    // The words of the generator below come one by one, those of the recursion all at once.
+    // The words of the generator below come one by one, those of the recursion all at once. (A method that
+    // is written anew can't call the trait's own body, so the loop stands here too.)
     fn fill(&mut self, words: &mut [Row]) -> Result<(), Refusal> {
-        if words.len() as u64 > LIMIT - self.at {
-            return Err(Refusal::PastLast);
-        }
-        if self.at < PASSED_ON {
+        let past = self.at.past(words.len() as u64)?;
+        if self.at.index() < PASSED_ON {
             for word in words.iter_mut() {
                 *word = self.next()?;
             }
-            return Ok(());
+        } else {
+            self.ring.forward_into(words);
+            self.at = past;
         }
-        self.ring.forward_into(words);
-        self.at += words.len() as u64;
         Ok(())
     }
 
     fn words_are_small() {}
 
     fn place(&self) -> u64 {
-        self.at
+        self.at.index()
     }
 }
 
 impl<M: TwoWay + Mother<Word = Row>> TwoWay for Handover<M> {
     fn back(&mut self) -> Result<Row, Refusal> {
-        if self.at == 0 {
-            return Err(Refusal::BeforeFirst);
-        }
-        if self.at <= PASSED_ON {
+        let before = self.at.before()?;
+        let n = before.index();
+        let word = if n < PASSED_ON {
             let word = self.below.back()?;
-            self.at -= 1;
-            self.ring.forget(self.at as usize);
-            Ok(word)
+            self.ring.forget(n as usize);
+            word
         } else {
-            let row = self.ring.backward();
-            self.at -= 1;
-            Ok(row)
-        }
+            self.ring.backward()
+        };
+        self.at = before;
+        Ok(word)
     }
 }
 
 // The equations of the recursion and of the words, and that a step back undoes a step on and the
 // other way round.
-pub fn recursion_stands() -> u8
+pub fn recursion_stands()
     ensures first_row { FirstRow }
     ensures first_rows { FirstRows }
     ensures later_rows { LaterRows }
@@ -126,6 +121,4 @@ pub fn recursion_stands() -> u8
     ensures words_late { WordsLate }
     ensures undone { StepThereAndBack }
     ensures redone { StepBackAndThere }
-{
-    0
-}
+{}

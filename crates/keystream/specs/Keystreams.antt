@@ -18,4 +18,4 @@ block_bytes f ws i = f.bytes (memory f ws (first_of i)) (memory f ws (first_of i
 
 -- the keystream byte at position p
 abbrev pub byte_at : {F W Y : Type 0} → Ghosts F W Y → Words W → ℕ → ℕ
-byte_at f ws p = slice_index (block_bytes f ws (p / f.size)) (p % f.size)
+byte_at f ws p = slice_index (block_bytes f ws (p / f.SIZE)) (p % f.SIZE)

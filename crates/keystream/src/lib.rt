@@ -19,7 +19,9 @@ pub trait Filter {
     ghost step: { Self.Memory → Self.Word → Self.Memory };
 
     // how many bytes a block has, and the bytes that two memories give
-    ghost size: { ℕ };
+    ghost SIZE: { ℕ };
+
+    const SIZE: usize;
 
     ghost bytes: { Self.Memory → Self.Memory → List ℕ };
 
@@ -29,16 +31,14 @@ pub trait Filter {
     fn step(y: Self::Memory, x: Self::Word) -> Self::Memory
         ensures { result ≡ step y x };
 
-    fn size() -> usize
-        ensures { result ≡ size };
-
-    // The block of two memories, one after the other, in the first bytes of the answer.
+    // The block of two memories, one after the other, in the first bytes of the answer: an array of `SIZE`
+    // bytes would need a computed length.
     fn block(y: Self::Memory, z: Self::Memory) -> [u8; 16]
-        ensures { take size result ≡ bytes y z };
+        ensures { take SIZE result ≡ bytes y z };
 
-    ghost some: { 1 ≤ size };
+    ghost some: { 1 ≤ SIZE };
 
-    ghost few: { size ≤ 16 };
+    ghost few: { SIZE ≤ 16 };
 
-    ghost whole: { (y z : Self.Memory) → length (bytes y z) ≡ size };
+    ghost whole: { (y z : Self.Memory) → length (bytes y z) ≡ SIZE };
 }

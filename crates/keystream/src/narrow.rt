@@ -1,6 +1,7 @@
 ghost use Rattle.std.specs.Prelude.{◌≡◌, ℕ, ◌^◌, take};
 ghost use Rattle.row.specs.Lanes.{Lane, ◌⊗◌, odd_factor};
 ghost use Rattle.keystream.specs.Narrows.{multiplied, top_byte, top_bytes};
+ghost use Rattle.keystream.specs.Undoing.{TakenBack};
 ghost use Rattle.std.proofs.Common.{rules};
 ghost use Rattle.row.proofs.RowFits.{oprod_lt};
 
@@ -8,8 +9,22 @@ use crate::Filter;
 use crate::two_way::TwoWayFilter;
 use row::lane;
 
-// The filter over 32-bit words that multiplies by each word with its lowest bit set, with blocks of
-// two bytes.
+// A narrow filter, over 32-bit words and with blocks of two bytes, by the product with which its
+// memory takes in a word.
+pub trait NarrowFilter {
+    ghost product: { ℕ → ℕ → ℕ };
+
+    fn product(y: u32, x: u32) -> u32
+        ensures { result ≡ product y x };
+
+    // The memory before the word `x`, from the memory `z` after it.
+    fn quotient(z: u32, x: u32) -> u32
+        ensures { TakenBack Lane product z x result };
+
+    ghost fits: { (y x : ℕ) → Lane (product y x) };
+}
+
+// Multiplies by each word with its lowest bit set.
 #[derive(Drop)]
 pub struct Narrow;
 
@@ -45,66 +60,46 @@ fn top_bytes(y: u32, z: u32) -> [u8; 16]
     block
 }
 
-impl Filter for Narrow {
-    type Word = u32;
+impl NarrowFilter for Narrow {
+    ghost product = { multiplied };
 
-    type Memory = u32;
+    ghost fits = { Prim.search rules };
 
-    ghost first = { odd_factor };
-
-    ghost step = { multiplied };
-
-    ghost size = { 2 };
-
-    ghost bytes = { top_bytes };
-
-    ghost some = { Prim.search rules };
-
-    ghost few = { Prim.search rules };
-
-    ghost whole = { Prim.search rules };
-
-    fn first(start: u32) -> u32 {
-        first_memory(start)
-    }
-
-    fn step(y: u32, x: u32) -> u32 {
+    fn product(y: u32, x: u32) -> u32 {
         lane::product(y, x)
     }
 
-    fn size() -> usize {
-        BLOCK
-    }
-
-    fn block(y: u32, z: u32) -> [u8; 16] {
-        top_bytes(y, z)
-    }
-}
-
-impl TwoWayFilter for Narrow {
-    ghost held = { Lane };
-
-    ghost stays = { Prim.search rules };
-
-    fn first_is_held(start: u32) {
-        let _y = first_memory(start);
-    }
-
-    fn undo(z: u32, x: u32) -> u32 {
+    fn quotient(z: u32, x: u32) -> u32 {
         lane::quotient(z, x)
     }
 }
 
-impl Filter for NarrowOdd {
+impl NarrowFilter for NarrowOdd {
+    ghost product = { ◌⊗◌ };
+
+    ghost fits = { λ y x. oprod_lt y x };
+
+    fn product(y: u32, x: u32) -> u32 {
+        lane::odd_product(y, x)
+    }
+
+    fn quotient(z: u32, x: u32) -> u32 {
+        lane::odd_quotient(z, x)
+    }
+}
+
+impl<P: NarrowFilter> Filter for P {
     type Word = u32;
 
     type Memory = u32;
 
     ghost first = { odd_factor };
 
-    ghost step = { ◌⊗◌ };
+    ghost step = { P.product };
 
-    ghost size = { 2 };
+    ghost SIZE = { 2 };
+
+    const SIZE: usize = BLOCK;
 
     ghost bytes = { top_bytes };
 
@@ -119,11 +114,7 @@ impl Filter for NarrowOdd {
     }
 
     fn step(y: u32, x: u32) -> u32 {
-        lane::odd_product(y, x)
-    }
-
-    fn size() -> usize {
-        BLOCK
+        P::product(y, x)
     }
 
     fn block(y: u32, z: u32) -> [u8; 16] {
@@ -131,16 +122,16 @@ impl Filter for NarrowOdd {
     }
 }
 
-impl TwoWayFilter for NarrowOdd {
+impl<P: NarrowFilter> TwoWayFilter for P {
     ghost held = { Lane };
 
-    ghost stays = { λ y x. oprod_lt y x };
+    ghost stays = { P.fits };
 
     fn first_is_held(start: u32) {
         let _y = first_memory(start);
     }
 
     fn undo(z: u32, x: u32) -> u32 {
-        lane::odd_quotient(z, x)
+        P::quotient(z, x)
     }
 }

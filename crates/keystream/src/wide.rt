@@ -26,20 +26,15 @@ const LOWER16: u32 = 0x0000_ffff;
 const UPPER16: u32 = 0xffff_0000;
 
 // The output row: the halves of each lane of `y` joined below, and those of `z` above.
+#[tactic(auto, unfolding(crate::specs::Wides::output))]
 fn output_row(y: Row, z: Row) -> Row
     ensures { result ≡ output y z }
 {
-    let a = u32x4::from_array([y.l0, y.l1, y.l2, y.l3]);
-    let b = u32x4::from_array([z.l0, z.l1, z.l2, z.l3]);
+    let a = u32x4::from(y);
+    let b = u32x4::from(z);
     let lower = (a ^ (a >> u32x4::splat(HALF))) & u32x4::splat(LOWER16);
     let upper = (b ^ (b << u32x4::splat(HALF))) & u32x4::splat(UPPER16);
-    let out = (lower | upper).to_array();
-    Row {
-        l0: out[0],
-        l1: out[1],
-        l2: out[2],
-        l3: out[3],
-    }
+    Row::from(lower | upper)
 }
 
 impl Filter for Wide {
@@ -51,7 +46,9 @@ impl Filter for Wide {
 
     ghost step = { stepped };
 
-    ghost size = { 16 };
+    ghost SIZE = { 16 };
+
+    const SIZE: usize = BLOCK;
 
     ghost bytes = { output_bytes };
 
@@ -67,10 +64,6 @@ impl Filter for Wide {
 
     fn step(y: Row, x: Row) -> Row {
         y.perm_shift3().odd_product(x)
-    }
-
-    fn size() -> usize {
-        BLOCK
     }
 
     fn block(y: Row, z: Row) -> [u8; 16] {

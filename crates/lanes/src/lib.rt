@@ -1,14 +1,14 @@
 #![tactic(auto)]
 
-ghost use Rattle.std.specs.Prelude.{◌^◌, ◌<◌, ◌≤◌};
 ghost use Rattle.row.specs.Rows.{lane_in};
 ghost use Rattle.mother.specs.Means.{means};
 ghost use Rattle.lanes.specs.Order.{lanes_of, in_lanes, StartWord, Words0, Words1, Words2, Words3};
 ghost use Rattle.lanes.specs.Calls.{Joined, Fresh, RowOn, RowBack};
 
-use hand::AtHand;
+use hand::{AtHand, row_at_hand};
+use mother::Mother;
+use mother::place::Place;
 use mother::two_way::TwoWay;
-use mother::{LIMIT, Mother};
 use refusal::Refusal;
 use row::Row;
 
@@ -22,9 +22,8 @@ const PER_ROW: u64 = 4;
 #[derive(Drop)]
 pub struct Lanes<M: Mother<Word = Row>> {
     below: M,
-    at_hand: AtHand,
-    at: u64,
-    ghost ok: { at ≤ 2 ^ 34 },
+    at_hand: Option<AtHand>,
+    at: Place,
 }
 
 impl<M: Mother<Word = Row>> Lanes<M> {
@@ -34,28 +33,27 @@ impl<M: Mother<Word = Row>> Lanes<M> {
     {
         Lanes {
             below,
-            at_hand: AtHand::Nothing,
-            at: 0,
+            at_hand: None,
+            at: Place::front(),
         }
     }
 
     // The row of the word to come. After a turn the generator below stands before the row at hand,
     // and passes over it.
     fn row_on(&mut self) -> Result<Row, Refusal>
-        requires { self.old.at < 2 ^ 34 }
         ensures { RowOn (means M.Mother) self.old.below self.old.at_hand
             self.old.at result self.new.below self.new.at_hand }
     {
-        let i = self.at / PER_ROW;
+        let i = self.at.index() / PER_ROW;
         let place = self.below.place();
-        if let Some(row) = self.at_hand.row(place, i) {
+        if let Some(row) = row_at_hand(self.at_hand, place, i) {
             return Ok(row);
         }
         if place < i {
             let _ = self.below.next()?;
         }
         let row = self.below.next()?;
-        self.at_hand = AtHand::Passed(row);
+        self.at_hand = Some(AtHand::Passed(row));
         Ok(row)
     }
 }
@@ -75,70 +73,62 @@ impl<M: Mother<Word = Row>> Mother for Lanes<M> {
 
     fn set_up(&mut self, key: &[u8], iv: &[u8]) -> Result<u32, Refusal> {
         let start = self.below.set_up(key, iv)?;
-        self.at_hand = AtHand::Nothing;
-        self.at = 0;
+        self.at_hand = None;
+        self.at = Place::front();
         Ok(start.lane(0))
     }
 
     fn next(&mut self) -> Result<u32, Refusal> {
-        let at = self.at;
-        if at == LIMIT {
-            return Err(Refusal::PastLast);
-        }
+        let n = self.at.index();
+        let after = self.at.after()?;
         let row = self.row_on()?;
-        self.at = at + 1;
-        Ok(row.lane(at))
+        self.at = after;
+        Ok(row.lane(n))
     }
 
     fn words_are_small() {}
 
     fn place(&self) -> u64 {
-        self.at
+        self.at.index()
     }
 }
 
 impl<M: TwoWay + Mother<Word = Row>> Lanes<M> {
-    // The row of the word before. After a turn the generator below stands behind the row at hand,
-    // and passes over it.
-    fn row_back(&mut self) -> Result<Row, Refusal>
-        requires { 0 < self.old.at }
+    // The row of the word at `before`, the place before this one. After a turn the generator below
+    // stands behind the row at hand, and passes over it.
+    fn row_back(&mut self, before: Place) -> Result<Row, Refusal>
         ensures { RowBack (means M.Mother) self.old.below self.old.at_hand
-            self.old.at result self.new.below self.new.at_hand }
+            before result self.new.below self.new.at_hand }
     {
-        let i = (self.at - 1) / PER_ROW;
+        let i = before.index() / PER_ROW;
         let place = self.below.place();
-        if let Some(row) = self.at_hand.row(place, i) {
+        if let Some(row) = row_at_hand(self.at_hand, place, i) {
             return Ok(row);
         }
         if place > i + 1 {
             let _ = self.below.back()?;
         }
         let row = self.below.back()?;
-        self.at_hand = AtHand::Ahead(row);
+        self.at_hand = Some(AtHand::Ahead(row));
         Ok(row)
     }
 }
 
 impl<M: TwoWay + Mother<Word = Row>> TwoWay for Lanes<M> {
     fn back(&mut self) -> Result<u32, Refusal> {
-        let at = self.at;
-        if at == 0 {
-            return Err(Refusal::BeforeFirst);
-        }
-        let row = self.row_back()?;
-        self.at = at - 1;
-        Ok(row.lane(at - 1))
+        let before = self.at.before()?;
+        let row = self.row_back(before)?;
+        self.at = before;
+        Ok(row.lane(before.index()))
     }
 }
 
 // The start word is lane [0] of the start row, and the words are the lanes of the rows in their
 // order.
-pub fn lanes_stand() -> u8
+pub fn lanes_stand()
     ensures start { StartWord }
     ensures lane_0 { Words0 }
     ensures lane_1 { Words1 }
     ensures lane_2 { Words2 }
     ensures lane_3 { Words3 }
-{
-    0
-}
+{}

@@ -1,2 +1,3 @@
 pub mod Generators
 pub mod Means
+pub mod Places

@@ -5,6 +5,7 @@ ghost use Rattle.mother.specs.Generators.{Words, generator, SetUp, Next, Fills, 
 
 use refusal::Refusal;
 
+pub mod place;
 pub mod two_way;
 
 // How many words a generator has.

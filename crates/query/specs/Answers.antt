@@ -1,5 +1,5 @@
 -- What is printed for a line.
-use Rattle.std.specs.Prelude.{◌≡◌, ℕ, ◌+◌, ◌%◌, ◌^◌, Bool, cond, not, ◌&&◌, List, ◌++◌, length, Some, None, Ok, Err, codes, decimal, Option, Result, ◌==◌, nat_le, nat_lt}
+use Rattle.std.specs.Prelude.{◌≡◌, ℕ, ◌+◌, ◌%◌, ◌^◌, Bool, cond, not, ◌&&◌, List, length, Some, None, Ok, Err, Option, Result, ◌==◌, nat_le, nat_lt}
 use Rattle.std.specs.Option.{option_map}
 use Rattle.refusal.specs.declared.Refusal.{Refusal}
 use Rattle.refusal.specs.declared.Refusal.TheVariants.{KeyLength, IvLength, PositionLimit, BadLine}
@@ -7,6 +7,7 @@ use Rattle.refusal.specs.Numbers.{numbered}
 use Rattle.cover.specs.Lists.{streamed}
 use Rattle.cryptmt.specs.Wide.{wide_byte}
 use Rattle.digits.specs.Digits.{spelled}
+use Rattle.digits.specs.Refusals.{refusal_text}
 use Rattle.query.specs.declared.Kind.{Kind}
 use Rattle.query.specs.declared.Kind.TheVariants.{Wide}
 use Rattle.query.specs.Queries.{Asked, query_of}
@@ -29,10 +30,6 @@ refusal_of q =
     cond (not (lawful q.key)) (Some KeyLength)
     (cond (not (lawful q.iv)) (Some IvLength)
     (cond (nat_lt (2 ^ 32) (q.from + q.count)) (Some PositionLimit) None))
-
--- a refusal as text
-abbrev pub refusal_text : Refusal → List ℕ
-refusal_text e = codes "no " ++ decimal (numbered e)
 
 -- how the bytes of a query are written: all of them, or it is refused
 abbrev pub Streams : Asked → Result (Unit {0}) Refusal → List ℕ → Type 0

@@ -1,18 +1,17 @@
 #![tactic(auto)]
 
 ghost use Rattle.std.specs.Prelude.{◌≡◌, length, IfOk};
-ghost use Rattle.query.specs.Queries.{kind_of, count_of};
-ghost use Rattle.query.specs.Parsing.{asked, Parses, malformed_by};
-ghost use Rattle.query.specs.Answers.{Streams, refusal_text, answer_of, printed_of};
+ghost use Rattle.digits.specs.Lines.{Parses};
+ghost use Rattle.query.specs.Queries.{kind_of, count_of, query_of};
+ghost use Rattle.query.specs.Parsing.{asked};
+ghost use Rattle.query.specs.Answers.{Streams, answer_of, printed_of};
 
-use digits::{HexError, decimal, hex, push_hex};
+use digits::fields::cut;
+use digits::line::{LONGEST, LineError, SPACE, split};
+use digits::refusals::refusal_text;
+use digits::{decimal, hex, push_hex};
 use refusal::Refusal;
 use std::alloc::{AllocError, Global};
-
-mod fields;
-
-// How many bytes a line may have, without the one that ends it.
-pub const LONGEST: usize = 4096;
 
 // How many keystream bytes a line may ask for.
 const MOST: u64 = 4096;
@@ -21,6 +20,21 @@ const MOST: u64 = 4096;
 #[derive(Clone, Copy, PartialEq, Eq, Debug)]
 pub enum Kind {
     Wide,
+}
+
+// The kind of a name.
+impl TryFrom<&[u8]> for Kind {
+    type Error = LineError;
+
+    ghost try_from_gives = { λ name r. Parses kind_of (λ kind. kind) name.now r };
+
+    fn try_from(name: &[u8]) -> Result<Self, LineError> {
+        if name == b"wide".as_slice() {
+            Ok(Kind::Wide)
+        } else {
+            Err(LineError::Malformed)
+        }
+    }
 }
 
 // What a line asks for: `count` keystream bytes from position `from` on.
@@ -33,35 +47,6 @@ pub struct Query {
     pub count: usize,
 }
 
-// Why a line was not parsed.
-#[derive(Clone, Copy, PartialEq, Eq, Debug)]
-pub enum QueryError {
-    Malformed,
-    NoMemory,
-}
-
-impl From<HexError> for QueryError {
-    ghost from_gives = { λ e t. t ≡ malformed_by e };
-
-    fn from(e: HexError) -> QueryError {
-        match e {
-            HexError::OddLength | HexError::NoDigit(_) => QueryError::Malformed,
-            HexError::NoMemory => QueryError::NoMemory,
-        }
-    }
-}
-
-// The kind of a name.
-fn named(text: &[u8]) -> Option<Kind>
-    ensures { result ≡ kind_of text.now }
-{
-    if text == b"wide".as_slice() {
-        Some(Kind::Wide)
-    } else {
-        None
-    }
-}
-
 // How many bytes a line asks for.
 fn counted(text: &[u8]) -> Option<usize>
     ensures { result ≡ count_of text.now }
@@ -71,18 +56,19 @@ fn counted(text: &[u8]) -> Option<usize>
 }
 
 // What a line asks for. A line of more than `LONGEST` bytes is malformed.
-pub fn parse(heap: Global, line: &[u8]) -> Result<Query, QueryError>
-    ensures { Parses line.now result }
+pub fn parse(heap: Global, line: &[u8]) -> Result<Query, LineError>
+    ensures { Parses query_of asked line.now result }
 {
     if line.len() > LONGEST {
-        return Err(QueryError::Malformed);
+        return Err(LineError::Malformed);
     }
-    let fields = fields::split(line).ok_or(QueryError::Malformed)?;
-    let kind = named(fields.kind).ok_or(QueryError::Malformed)?;
+    let fields = split(line).ok_or(LineError::Malformed)?;
+    let (from, count) = cut(fields.rest, SPACE).ok_or(LineError::Malformed)?;
+    let kind = Kind::try_from(fields.kind)?;
     let key = hex(heap, fields.key)?;
     let iv = hex(heap, fields.iv)?;
-    let from = decimal(fields.from).ok_or(QueryError::Malformed)?;
-    let count = counted(fields.count).ok_or(QueryError::Malformed)?;
+    let from = decimal(from).ok_or(LineError::Malformed)?;
+    let count = counted(count).ok_or(LineError::Malformed)?;
     Ok(Query {
         kind,
         key,
@@ -92,7 +78,7 @@ pub fn parse(heap: Global, line: &[u8]) -> Result<Query, QueryError>
     })
 }
 
-// Writes the keystream bytes that a query asks for over `out`.
+// Writes the keystream bytes that a query asks for over `out`. (A kind picks a type; there is one today.)
 fn stream(query: &Query, out: &mut [u8]) -> Result<(), Refusal>
     requires { length out.old ≡ query.now.count }
     ensures { Streams (asked query.now) result out.new }
@@ -100,14 +86,6 @@ fn stream(query: &Query, out: &mut [u8]) -> Result<(), Refusal>
     match query.kind {
         Kind::Wide => cryptmt::keystream(&query.key, &query.iv, query.from, out),
     }
-}
-
-// A refusal as it is printed.
-fn refused(heap: Global, refusal: Refusal) -> Result<Vec<u8>, AllocError>
-    ensures { IfOk result (λ text. text.items ≡ refusal_text refusal) }
-{
-    let number = refusal.number();
-    Ok(format!(in heap; "no {number}")?.into_bytes())
 }
 
 // What is printed for a query.
@@ -121,7 +99,7 @@ fn answer_to(heap: Global, query: &Query) -> Result<Vec<u8>, AllocError>
             push_hex(&mut text, &bytes)?;
             Ok(text)
         }
-        Err(refusal) => refused(heap, refusal),
+        Err(refusal) => refusal_text(heap, refusal),
     }
 }
 
@@ -131,7 +109,6 @@ pub fn answer(heap: Global, line: &[u8]) -> Result<Vec<u8>, AllocError>
 {
     match parse(heap, line) {
         Ok(query) => answer_to(heap, &query),
-        Err(QueryError::Malformed) => refused(heap, Refusal::BadLine),
-        Err(QueryError::NoMemory) => Err(AllocError),
+        Err(e) => e.told(heap),
     }
 }

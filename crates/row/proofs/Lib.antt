@@ -1,3 +1,4 @@
+pub mod Wraps
 pub mod Modular
 pub mod LaneLaws
 pub mod RowLaws

@@ -1,7 +1,6 @@
 -- A generator that goes on and back, move by move.
-use Rattle.std.proofs.Common.{◌≡◌, ℕ, ◌+◌, ◌<◌, List, [], ◌∷◌, ◌++◌, map, length, get_or, take, sym, refl, ap, ◌∙◌, subst, le_refl, below_more}
-use Rattle.std.proofs.lemmas.List.{map_more, take_all}
-use Rattle.mother.specs.Generators.{Generator, Stays, limit}
+use Rattle.std.proofs.Common.{◌≡◌, ℕ, List, map, take, refl, ◌∙◌}
+use Rattle.mother.specs.Generators.{Generator, Stays}
 use Rattle.walk.specs.Visits.{Among, Low}
 
 -- from state s to t the words stay, and the place is now n
@@ -21,22 +20,3 @@ among_then m s t u a h start word given = (
 pub record Seen {S W : Type 0} (m : Generator S W) (s : S) (places : List ℕ) (n : ℕ) (ws : List W) : Type 0 where
   pub low : Low m places n
   pub words : ws ≡ map (m.word s) (take n places)
-
-pub seen_more : {S W : Type 0} (m : Generator S W) (s t : S) (places : List ℕ) (i : ℕ) (ws ws' : List W) (w : W)
-    → i < length places → Seen m s places i ws → m.word t ≡ m.word s → get_or places i 0 < limit
-    → w ≡ m.word t (get_or places i 0) → ws' ≡ ws ++ w ∷ [] → Seen m s places (i + 1) ws'
-seen_more m s t places i ws ws' w lt seen same low is more =
-    let p : ℕ = get_or places i 0 in
-    record {
-      low = below_more (λ j. get_or places j 0 < limit) i seen.low low;
-      words = more
-          ∙ ap (λ vs. vs ++ w ∷ []) seen.words
-          ∙ ap (λ v. map (m.word s) (take i places) ++ v ∷ []) (is ∙ ap (λ g. g p) same)
-          ∙ sym (map_more (m.word s) places i 0 lt);
-    }
-
-pub seen_all : {S W : Type 0} (m : Generator S W) (s : S) (places : List ℕ) (i : ℕ) (ws : List W) → i ≡ length places
-    → Seen m s places i ws → Low m places (length places) × (ws ≡ map (m.word s) places)
-seen_all m s places i ws e seen =
-    let all = take_all (length places) places (le_refl (length places)) in
-    (subst (Low m places) e seen.low, seen.words ∙ ap (λ n. map (m.word s) (take n places)) e ∙ ap (map (m.word s)) all)

@@ -21,4 +21,4 @@ module _ {S W : Type 0} (m : Generator S W) where
       m.sound s → Among s s' × Low places (length places) × (vec_items v ≡ map (m.word s) places)
   Visited s places (Err (Refusal e)) s' =
       m.sound s → Among s s' × (numbered e ≡ 15) × ((i : ℕ) × (i < length places) × (limit ≤ slice_index places i))
-  Visited s places (Err NoMemory) s' = m.sound s → Among s s'
+  Visited s places (Err (NoMemory e)) s' = m.sound s → Among s s'

@@ -1,6 +1,6 @@
 #![tactic(auto)]
 
-ghost use Rattle.std.specs.Prelude.{◌≡◌, ◌^◌, ◌<◌};
+ghost use Rattle.std.specs.Prelude.{◌≡◌, ◌^◌, ◌<◌, alloc_error};
 ghost use Rattle.mother.specs.Means.{means};
 ghost use Rattle.walk.specs.Walks.{MovedOn, MovedBack, Walked};
 ghost use Rattle.walk.specs.Visits.{Visited};
@@ -9,13 +9,13 @@ ghost use Rattle.walk.specs.declared.WalkError.TheVariants.{Refusal as by_refusa
 use mother::two_way::TwoWay;
 use mother::{LIMIT, Mother};
 use refusal::Refusal;
-use std::alloc::{AllocFailed, Global};
+use std::alloc::{AllocError, AllocFailed, Global};
 
 // Why a walk was not made.
-#[derive(Clone, Copy)]
+#[derive(Clone, Copy, PartialEq, Eq, Debug)]
 pub enum WalkError {
     Refusal(Refusal),
-    NoMemory,
+    NoMemory(AllocError),
 }
 
 impl From<Refusal> for WalkError {
@@ -27,10 +27,10 @@ impl From<Refusal> for WalkError {
 }
 
 impl<T: Drop> From<AllocFailed<T>> for WalkError {
-    ghost from_gives = { λ e t. t ≡ NoMemory };
+    ghost from_gives = { λ _ t. t ≡ NoMemory alloc_error };
 
-    fn from(_e: AllocFailed<T>) -> WalkError {
-        WalkError::NoMemory
+    fn from(e: AllocFailed<T>) -> WalkError {
+        WalkError::NoMemory(e.into())
     }
 }
 

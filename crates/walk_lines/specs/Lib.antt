@@ -1,4 +1,2 @@
-pub mod Fields
-pub mod Held
 pub mod Requests
 pub mod Parsing

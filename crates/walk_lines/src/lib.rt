@@ -1,4 +1,3 @@
 #![tactic(auto)]
 
-mod fields;
 pub mod request;

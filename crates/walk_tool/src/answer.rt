@@ -1,3 +1,11 @@
+ghost use Rattle.std.specs.Prelude.{◌≡◌, ℕ, List, ◌++◌, IfOk, None};
+ghost use Rattle.refusal.specs.declared.Refusal.TheVariants.{BadLine};
+ghost use Rattle.digits.specs.Refusals.{refusal_text};
+ghost use Rattle.walk_lines.specs.Requests.{request_of};
+ghost use Rattle.row.specs.Bytes.{row_bytes, lane_bytes};
+ghost use Rattle.digits.specs.Digits.{spelled};
+ghost use Rattle.walk_tool.specs.Texts.{joined, Told};
+
 use booter::Booter;
 use digits::push_hex;
 use digits::refusals::refusal_text;
@@ -5,24 +13,30 @@ use handover::Handover;
 use lanes::Lanes;
 use mother::Mother;
 use mother::two_way::TwoWay;
-use refusal::Refusal;
 use row::Row;
 use std::alloc::{AllocError, Global};
 use walk::{WalkError, words_at};
-use walk_lines::request::{Kind, Request, RequestError, parse};
+use walk_lines::request::{Kind, Request, parse};
 
 // A word that is printed by its bytes, the lowest first.
 trait Printed: Copy {
-    fn push_to(self, text: &mut Vec<u8>) -> Result<(), AllocError>;
+    ghost bytes: { Self → List ℕ };
+
+    fn push_to(self, text: &mut Vec<u8>) -> Result<(), AllocError>
+        ensures { IfOk result (λ _. text.new.items ≡ text.old.items ++ spelled (bytes self)) };
 }
 
 impl Printed for Row {
+    ghost bytes = { row_bytes };
+
     fn push_to(self, text: &mut Vec<u8>) -> Result<(), AllocError> {
         push_hex(text, &self.to_bytes())
     }
 }
 
 impl Printed for u32 {
+    ghost bytes = { lane_bytes };
+
     fn push_to(self, text: &mut Vec<u8>) -> Result<(), AllocError> {
         push_hex(text, &self.to_le_bytes())
     }
@@ -39,26 +53,32 @@ fn walked<M: TwoWay + Drop>(
 }
 
 // Words with single spaces between them.
-fn words_text<W: Printed>(heap: Global, words: &Vec<W>) -> Result<Vec<u8>, AllocError> {
+fn words_text<W: Printed>(heap: Global, words: &[W]) -> Result<Vec<u8>, AllocError>
+    ensures { IfOk result (λ text. text.items ≡ joined W.bytes words.now) }
+{
     let mut text = Vec::new(heap);
-    for (i, word) in words.iter().enumerate() {
-        if i > 0 {
+    if let Some((first, rest)) = words.split_first() {
+        first.push_to(&mut text)?;
+        for word in rest {
             text.push(b' ')?;
+            word.push_to(&mut text)?;
         }
-        word.push_to(&mut text)?;
     }
     Ok(text)
 }
 
 // What is printed for the words of a walk.
-fn told<W: Printed>(heap: Global, walk: Result<Vec<W>, WalkError>) -> Result<Vec<u8>, AllocError> {
+fn told<W: Printed>(heap: Global, walk: Result<Vec<W>, WalkError>) -> Result<Vec<u8>, AllocError>
+    ensures { IfOk result (λ text. Told W.bytes walk text.items) }
+{
     match walk {
         Ok(words) => words_text(heap, &words),
         Err(WalkError::Refusal(refusal)) => refusal_text(heap, refusal),
-        Err(WalkError::NoMemory) => Err(AllocError),
+        Err(WalkError::NoMemory(e)) => Err(e),
     }
 }
 
+// Each kind is a generator of another type, which the match picks.
 fn answer_to(heap: Global, request: &Request) -> Result<Vec<u8>, AllocError> {
     let booter = Booter::new();
     match request.kind {
@@ -72,10 +92,11 @@ fn answer_to(heap: Global, request: &Request) -> Result<Vec<u8>, AllocError> {
 }
 
 // What is printed for a line, without the byte that ends it.
-pub(crate) fn answer(heap: Global, line: &[u8]) -> Result<Vec<u8>, AllocError> {
+pub(crate) fn answer(heap: Global, line: &[u8]) -> Result<Vec<u8>, AllocError>
+    ensures { IfOk result (λ text. request_of line.now ≡ None → text.items ≡ refusal_text BadLine) }
+{
     match parse(heap, line) {
         Ok(request) => answer_to(heap, &request),
-        Err(RequestError::Malformed) => refusal_text(heap, Refusal::BadLine),
-        Err(RequestError::NoMemory) => Err(AllocError),
+        Err(e) => e.told(heap),
     }
 }

@@ -2,10 +2,10 @@
 
 ghost use Rattle.std.specs.Prelude.{◌≡◌};
 ghost use Rattle.mother.specs.Means.{means};
-ghost use Rattle.wide_bench.specs.Pieces.{InPieces, CoversWide};
+ghost use Rattle.wide_bench.specs.Pieces.{InPieces, CoversWide, number_of};
 
 use booter::Booter;
-use cover::Cover;
+use cover::{Cover, LIMIT};
 use handover::Handover;
 use keystream::Filter;
 use keystream::wide::Wide;
@@ -14,10 +14,8 @@ use refusal::Refusal;
 
 pub mod walk;
 
-// The most bytes that a cover can cover.
-const LIMIT: u64 = 4_294_967_296;
-
-// Covers `bytes` in pieces of `piece` bytes, one call of the cover for each.
+// Covers `bytes` in pieces of `piece` bytes, one call of the cover for each; by index, since of `chunks_mut` a loop
+// knows only how many there are.
 fn in_pieces<M: Mother, F: Filter<Word = M::Word>>(
     cover: &mut Cover<M, F>,
     bytes: &mut [u8],
@@ -26,29 +24,31 @@ fn in_pieces<M: Mother, F: Filter<Word = M::Word>>(
     ensures { InPieces (means M.Mother) F.Filter cover.old bytes.old
         result cover.new bytes.new }
 {
-    let mut at = 0;
-    while at < bytes.len() {
-        let n = piece.max(1).min(bytes.len() - at);
-        let _ = cover.cover(&mut bytes[at..at + n])?;
-        at += n;
+    let size = piece.max(1);
+    for i in 0..bytes.len().div_ceil(size) {
+        let at = i * size;
+        let end = at + size.min(bytes.len() - at);
+        let _ = cover.cover(&mut bytes[at..end])?;
     }
     Ok(())
 }
 
-// Sets up the wide cover and covers `bytes` in pieces; answers 0, or the number of the refusal.
+// Sets up the wide cover and covers `bytes` in pieces.
+fn cover_pieces(key: &[u8], iv: &[u8], bytes: &mut [u8], piece: usize) -> Result<(), Refusal>
+    ensures { CoversWide key.now iv.now bytes.old (number_of result) bytes.new }
+{
+    let mut cover = Cover::<Handover<Booter>, Wide>::new(Handover::new(Booter::new()));
+    cover.set_up(key, iv)?;
+    if bytes.len() as u64 > LIMIT {
+        return Err(Refusal::PositionLimit);
+    }
+    in_pieces(&mut cover, bytes, piece)
+}
+
+// The same for C: it answers 0, or the number of the refusal.
 #[unsafe(no_mangle)]
 pub extern "C" fn wide_cover_pieces(key: &[u8], iv: &[u8], bytes: &mut [u8], piece: usize) -> u8
     ensures { CoversWide key.now iv.now bytes.old result bytes.new }
 {
-    let mut cover = Cover::<Handover<Booter>, Wide>::new(Handover::new(Booter::new()));
-    if let Err(e) = cover.set_up(key, iv) {
-        return e.number();
-    }
-    if bytes.len() as u64 > LIMIT {
-        return Refusal::PositionLimit.number();
-    }
-    match in_pieces(&mut cover, bytes, piece) {
-        Ok(_) => 0,
-        Err(e) => e.number(),
-    }
+    cover_pieces(key, iv, bytes, piece).map_or_else(Refusal::number, |()| 0)
 }

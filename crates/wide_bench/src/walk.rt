@@ -1,5 +1,5 @@
-ghost use Rattle.std.specs.Prelude.{◌≡◌, length};
-ghost use Rattle.wide_bench.specs.Walks.{WalkedOn, WalkedThereAndBack, Told, Answers};
+ghost use Rattle.std.specs.Prelude.{◌≡◌};
+ghost use Rattle.wide_bench.specs.Walks.{WalkedOn, WalkedThereAndBack, Answers};
 
 use booter::Booter;
 use cryptmt::WidePile;
@@ -10,7 +10,8 @@ use row::Row;
 
 const MEMORY_BYTES: usize = 16;
 
-// What the walks answer where the buffer for the memory has another length.
+// What the walks answer where the buffer for the memory has another length. They are called from C, which
+// has no `Result`: 0, this, or the number of a refusal.
 const OTHER_LENGTH: u8 = 255;
 
 // The memory after `words` words.
@@ -32,14 +33,17 @@ fn walked_there_and_back(key: &[u8], iv: &[u8], words: u64) -> Result<Row, Refus
     follow::back::<WidePile, Wide>(&mut pile, far, words)
 }
 
-// Writes a memory over `bytes`, and answers 0, or the number of a refusal.
-fn told(memory: Result<Row, Refusal>, bytes: &mut [u8]) -> u8
-    requires { length bytes.old ≡ 16 }
-    ensures { Told memory bytes.old result bytes.new }
+// Walks, and writes the memory come to over `memory`. It answers 0 or the number of a refusal.
+fn tell<W: FnOnce() -> Result<Row, Refusal>>(walk: W, memory: &mut [u8]) -> u8
+    requires { W.pre walk }
+    ensures { Answers (W.post walk) memory.old result memory.new }
 {
-    match memory {
+    if memory.len() != MEMORY_BYTES {
+        return OTHER_LENGTH;
+    }
+    match walk() {
         Ok(row) => {
-            bytes.copy_from_slice(&row.to_bytes());
+            memory.copy_from_slice(&row.to_bytes());
             0
         }
         Err(e) => e.number(),
@@ -52,10 +56,7 @@ pub extern "C" fn wide_walk_on(key: &[u8], iv: &[u8], words: u64, memory: &mut [
     ensures { Answers (WalkedOn key.now iv.now words) memory.old
         result memory.new }
 {
-    if memory.len() != MEMORY_BYTES {
-        return OTHER_LENGTH;
-    }
-    told(walked_on(key, iv, words), memory)
+    tell(|| walked_on(key, iv, words), memory)
 }
 
 // The same, and takes all these words back again before it writes the memory.
@@ -69,8 +70,5 @@ pub extern "C" fn wide_walk_there_and_back(
     ensures { Answers (WalkedThereAndBack key.now iv.now words) memory.old
         result memory.new }
 {
-    if memory.len() != MEMORY_BYTES {
-        return OTHER_LENGTH;
-    }
-    told(walked_there_and_back(key, iv, words), memory)
+    tell(|| walked_there_and_back(key, iv, words), memory)
 }

@@ -1,24 +1,15 @@
-ghost use Rattle.std.specs.Prelude.{◌≡◌, ℕ, ◌*◌, ◌<◌};
-ghost use Rattle.row.specs.declared.Row.{Row};
-ghost use Rattle.booter.specs.Registers.{wrap};
+ghost use Rattle.std.specs.Prelude.{◌≡◌, ◌<◌};
 ghost use Rattle.booter.specs.Calls.{kth_of, newest_of, output_of, turned_of};
 ghost use Rattle.booter.specs.Calls.{output_before_of, turned_before_of, oldest_before_of};
 ghost use Rattle.booter.specs.Calls.{Stepped, Unstepped, WordAt, WordBefore};
 
 use crate::register::Register;
 use row::Row;
-
-// An index that may have passed the end once.
-pub(super) fn wrapped(n: usize, height: usize) -> usize
-    requires { n < 2 * height }
-    ensures is { result ≡ wrap height n }
-    ensures below { result < height }
-{
-    if n < height { n } else { n - height }
-}
+use row::ring::wrapped;
 
 impl Register {
-    // The row `k` after the oldest.
+    // The row `k` after the oldest. (The recursion's ring has this line too, over an array of another length; the
+    // index, which is the part to get wrong, is `wrapped` in both.)
     fn at(&self, k: usize) -> Row
         requires { k < self.now.height }
         ensures { result ≡ kth_of self.now k }

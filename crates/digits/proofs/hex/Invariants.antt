@@ -1,9 +1,7 @@
-use Rattle.std.proofs.Common.{◌≡◌, ◌-◌, ◌%◌, ◌≤◌, length, drop, vec_items}
-use Rattle.digits.specs.Digits.{hex_of, prefixed}
+use Rattle.std.proofs.Common.{vec_items}
+use Rattle.digits.specs.Digits.{pair_of}
+use Rattle.digits.proofs.Gathering.{Gathered}
 use Rattle.digits.proofs.hex.Given as goal
 
-abbrev pub invariant-loop-i : goal.invariant-loop-i
-invariant-loop-i l = (prefixed (vec_items l.out) (hex_of (drop l.i l.text)) ≡ hex_of l.text) × (l.i % 2 ≡ 0) × (l.i ≤ length l.text)
-
-abbrev pub decreases-loop-i : goal.decreases-loop-i
-decreases-loop-i l = length l.text - l.i
+abbrev pub invariant-loop-pair : goal.invariant-loop-pair
+invariant-loop-pair l = Gathered pair_of l.pairs l.pair-index (vec_items l.out)

@@ -1,11 +1,11 @@
 ghost use Rattle.std.specs.Prelude.{◌≡◌, ℕ, ◌<◌};
 ghost use Rattle.row.specs.declared.Row.{Row};
 ghost use Rattle.handover.specs.Recursion.{marked as marked_row};
-ghost use Rattle.handover.specs.Rings.{wrap};
-ghost use Rattle.handover.specs.Calls.{kth_of, newer_of, older_of, Seeded, Put, PutNext};
+ghost use Rattle.handover.specs.Calls.{kth_of, newer_of, older_of, Seeded};
 ghost use Rattle.handover.specs.Calls.{TurnedOn, GoesOn, TurnedInto, TurnedBack, GoesBack, RecordedNext, Forgot};
 
 use crate::ring::{ROWS, Ring};
+use row::ring::wrapped;
 use row::{Row, recursion};
 
 const MASK: Row = Row {
@@ -25,24 +25,14 @@ const MIDDLE: usize = 108;
 
 const NEWEST: usize = 155;
 
-// An index that may have passed the end once.
-fn wrapped(n: usize) -> usize
-    requires { n < 312 }
-    ensures is { result ≡ wrap n }
-    ensures below { result < 156 }
-{
-    if n < ROWS { n } else { n - ROWS }
-}
-
 fn marked(word: Row) -> Row
     ensures { result ≡ marked_row word }
 {
     Row { l3: MARK, ..word }
 }
 
-// The row x_n, from the word `n` below.
+// The row x_n, from the word `n` below, for an n below 156.
 fn seeded(n: usize, word: Row) -> Row
-    requires { n < 156 }
     ensures { Seeded n word result }
 {
     if n == 0 { marked(word) } else { word }
@@ -51,12 +41,7 @@ fn seeded(n: usize, word: Row) -> Row
 impl Ring {
     pub(crate) fn new() -> Ring {
         Ring {
-            rows: [Row {
-                l0: 0,
-                l1: 0,
-                l2: 0,
-                l3: 0,
-            }; ROWS],
+            rows: [Row::default(); ROWS],
             head: 0,
         }
     }
@@ -66,16 +51,7 @@ impl Ring {
         requires { k < 156 }
         ensures { result ≡ kth_of self.now k }
     {
-        self.rows[wrapped(self.head + k)]
-    }
-
-    // Puts the row `k` after the oldest.
-    fn put(&mut self, k: usize, row: Row)
-        requires { k < 156 }
-        ensures row { Put self.old k row self.new }
-        ensures next { PutNext self.old k row self.new }
-    {
-        self.rows[wrapped(self.head + k)] = row;
+        self.rows[wrapped(self.head + k, ROWS)]
     }
 
     // The row after the newest.
@@ -103,25 +79,26 @@ impl Ring {
         ensures held { GoesOn self.old result self.new }
     {
         let new = self.newer();
-        self.put(OLDEST, new);
-        self.head = wrapped(self.head + 1);
+        self.rows[self.head] = new;
+        self.head = wrapped(self.head + 1, ROWS);
         new
     }
 
     // Steps on once for each place of `words`, and writes the new row there. Both indices and the newest
-    // row stay outside the ring meanwhile, so that the loop waits for no memory.
+    // row stay outside the ring meanwhile, so that the loop waits for no memory: found anew for each row,
+    // they cost a cover over half as much time again.
     pub(crate) fn forward_into(&mut self, words: &mut [Row])
         ensures { TurnedInto self.old self.new words.new }
     {
         let mut head = self.head;
-        let mut middle = wrapped(head + MIDDLE);
+        let mut middle = wrapped(head + MIDDLE, ROWS);
         let mut newest = self.at(NEWEST);
         for word in words.iter_mut() {
             newest = recursion::step(MASK, newest, self.rows[middle], self.rows[head]);
             self.rows[head] = newest;
             *word = newest;
-            head = wrapped(head + 1);
-            middle = wrapped(middle + 1);
+            head = wrapped(head + 1, ROWS);
+            middle = wrapped(middle + 1, ROWS);
         }
         self.head = head;
     }
@@ -133,8 +110,9 @@ impl Ring {
     {
         let newest = self.at(NEWEST);
         let old = self.older();
-        self.put(NEWEST, old);
-        self.head = wrapped(self.head + NEWEST);
+        let last = wrapped(self.head + NEWEST, ROWS);
+        self.rows[last] = old;
+        self.head = last;
         newest
     }
 
@@ -143,7 +121,7 @@ impl Ring {
         requires { n < 156 }
         ensures { RecordedNext self.old n word self.new }
     {
-        self.put(n, seeded(n, word));
+        self.rows[wrapped(self.head + n, ROWS)] = seeded(n, word);
         if n == NEWEST {
             let _ = self.forward();
         }

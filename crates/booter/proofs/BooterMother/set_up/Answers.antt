@@ -1,12 +1,21 @@
-use Rattle.std.proofs.Common.{refl}
-use Rattle.booter.specs.Calls.{start_from}
+use Rattle.std.proofs.Common.{◌≡◌, Some, refl, ◌∙◌, arith}
+use Rattle.std.proofs.lemmas.Option.{MatchOption-at_some}
+use Rattle.mother.specs.Generators.{Lawful}
 use Rattle.booter.proofs.Loads.{set_up_done}
 use Rattle.booter.proofs.BooterMother.set_up.Goals as goal
 
 pub returns : goal.returns
-unfolding start_from
 returns c =
-    let lk = c.lawful.ensures.0 c.if-not-lawful.false in
-    let lv = c.lawful-2.ensures.0 c.if-not-lawful-2.false in
-    let e = set_up_done c.args.key.now c.args.iv.now lk lv _ _ c.load-register.ensures c.idle.ensures in
-    (lk, lv, c.newest-start.ensures, record { start = e.1; word = e.2; given = refl; place = refl; sound = e.0 })
+    let key = c.args.key.now in
+    let iv = c.args.iv.now in
+    let some_key : c.of.result ≡ Some c.in_ok-key.key = grind arith in
+    let some_iv : c.of-2.result ≡ Some c.in_ok-iv.iv = grind arith in
+    let k = MatchOption-at_some (Lawful key → ⊥) (λ r. (r ≡ key) × Lawful key) _ some_key c.of.ensures in
+    let v = MatchOption-at_some (Lawful iv → ⊥) (λ r. (r ≡ iv) × Lawful iv) _ some_iv c.of-2.ensures in
+    let loaded = rw (k.0, v.0) at c.load-register.ensures in
+    let e = set_up_done key iv k.1 v.1 _ c.idle.new.self c.front-self.result loaded c.idle.ensures c.front-self.ensures in (
+      k.1,
+      v.1,
+      c.newest-start.ensures ∙ e.1,
+      record { start = e.2; word = e.3; given = refl; place = c.front-self.ensures; sound = e.0 },
+    )

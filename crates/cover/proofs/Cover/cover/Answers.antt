@@ -1,10 +1,17 @@
 use Rattle.std.proofs.Common.{◌≡◌, ℕ, ◌+◌, ◌^◌, ◌≤◌, length, Option, subst, arith}
 use Rattle.mother.specs.Means.{means}
-use Rattle.keystream.specs.Keystreams.{byte_at}
 use Rattle.cover.specs.declared.stage.Stage.{Stage}
 use Rattle.cover.specs.Covers.{Staged}
-use Rattle.cover.proofs.Bytes.{all_covered}
 use Rattle.cover.proofs.Cover.cover.Goals as goal
+
+pub returns-in_err-cover_all : goal.returns-in_err-cover_all
+returns-in_err-cover_all g c = (
+  λ e. let z : ◌≡◌ {A = ℕ} 0 1 = cc (c.in-Some.is, e) in absurd (omega arith),
+  λ ws p ready.
+      let S : Option (Stage g.row.F-Memory.Denot) → Type 0 = λ o. Staged (means g.M.Mother) g.F.Filter c.args.self.now.mother o ws p in
+      let at = subst S c.in-Some.is ready in
+      absurd (c.in_err-cover_all.ensures ws p at (omega (arith, at.position))),
+)
 
 pub returns : goal.returns
 returns g c = (
@@ -14,6 +21,6 @@ returns g c = (
       let S : Option (Stage g.row.F-Memory.Denot) → Type 0 = λ o. Staged (means g.M.Mother) g.F.Filter c.args.self.now.mother o ws p in
       let at = subst S c.in-Some.is ready in
       let low : p + length bytes ≤ 2 ^ 32 = omega (arith, at.position) in
-      let all = c.in_ok-follow.ensures ws p at low in
-      (low, at.position, all_covered (byte_at g.F.Filter ws) p bytes c.follow.new.bytes all.0.changed, all.0.at, all.1),
+      let all = c.in_ok-cover_all.ensures ws p at low in
+      (low, at.position, all.0, all.1, all.2),
 )

@@ -1,13 +1,7 @@
-use Rattle.std.proofs.Common.{◌+◌, ◌^◌, ◌≤◌, length, ap, arith, true-eqb}
+use Rattle.std.proofs.Common.{◌+◌, ◌^◌, ◌≤◌, length, ap, arith}
 use Rattle.keystream.specs.Keystreams.{byte_at}
-use Rattle.cover.proofs.Bytes.{streamed_over, none_streamed}
+use Rattle.cover.proofs.Bytes.{streamed_over}
 use Rattle.cover.proofs.range.keystream.Goals as goal
-
-pub returns-then-is_empty : goal.returns-then-is_empty
-returns-then-is_empty g c =
-    let set = c.in_ok-set_up.ensures in
-    let low : c.args.from + length c.args.out.now ≤ 2 ^ 32 = omega arith in
-    (set.0, set.1, low, none_streamed _ c.args.from c.args.out.now (true-eqb _ 0 c.if-is_empty.ensures))
 
 pub returns : goal.returns
 returns g c =
@@ -22,6 +16,6 @@ returns g c =
       set.0,
       set.1,
       low,
-      streamed_over (byte_at g.F.Filter ws) _ c.args.from (length c.args.out.now) c.clear.new.bytes
-          c.cover.new.bytes same c.clear.ensures out.2,
+      streamed_over (byte_at g.F.Filter ws) _ c.args.from (length c.args.out.now) c.fill.new.self
+          c.cover.new.bytes same (c.fill.ensures.after (λ y e. e)) out.2,
     )

@@ -1,15 +1,8 @@
-use Rattle.std.proofs.Common.{◌≡◌, ◌++◌, vec_items, ap, ◌∙◌, arith}
+use Rattle.std.proofs.Common.{◌≡◌, vec_items, ap, ◌∙◌, arith}
 use Rattle.std.proofs.lemmas.List.{take_all}
 use Rattle.demo.specs.Addresses.{bytes_of, addresses_of}
-use Rattle.demo.proofs.Bytes.{bytes_more, addresses_back}
+use Rattle.demo.proofs.Bytes.{addresses_back}
 use Rattle.demo.proofs.addresses.to_bytes.Goals as goal
-
-pub loop-a-preserved : goal.loop-a-preserved
-loop-a-preserved c =
-    bytes_more (vec_items c.loop-a.bytes) _ c.args.addresses.now c.loop-a.a-index
-    c.loop-a-test.true c.loop-a.invariant
-    (c.in_ok-extend_from_slice.ensures.items
-    ∙ ap (λ v. vec_items c.loop-a.bytes ++ v) c.to_le_bytes.ensures)
 
 pub returns : goal.returns
 returns c =

@@ -1,9 +1,8 @@
 use Rattle.std.proofs.Common.{length, vec_items}
-use Rattle.digits.proofs.Cutting.{Read}
+use Rattle.digits.specs.Digits.{decimal_of}
+use Rattle.digits.specs.Cuts.{pieces_of}
+use Rattle.digits.proofs.Gathering.{Gathered}
 use Rattle.digits.proofs.fields.decimals.Given as goal
 
-abbrev pub invariant-loop-first : goal.invariant-loop-first
-invariant-loop-first l = Read l.at l.initial.rest (vec_items l.numbers) l.rest
-
-abbrev pub decreases-loop-first : goal.decreases-loop-first
-decreases-loop-first l = length l.rest
+abbrev pub invariant-loop-piece : goal.invariant-loop-piece
+invariant-loop-piece l = Gathered decimal_of (pieces_of l.fn.at l.text) (length l.yielded) (vec_items l.numbers)

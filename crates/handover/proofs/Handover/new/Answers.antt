@@ -6,6 +6,6 @@ pub returns : goal.returns
 returns g c =
     record {
       below = refl;
-      place = refl;
-      sound = λ s p. record { sound = s; place = omega (arith, p); held = nothing_held _ c.new.result };
+      place = c.front.ensures;
+      sound = λ s p. record { sound = s; place = omega (arith, p); held = nothing_held _ c.new.result _ c.front.ensures };
     }

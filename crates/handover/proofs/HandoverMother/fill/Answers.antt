@@ -10,8 +10,8 @@ loop-word-preserved g c sound =
     filled_more (handed (means g.M.Mother)) c.args.self.now c.loop-word.word-index c.loop-word.self c.next.new.self
     c.loop-word.words _ (omega arith) (c.loop-word.invariant sound) c.in_ok-word.ensures
 
-pub returns-then-self-lt-PASSED_ON : goal.returns-then-self-lt-PASSED_ON
-returns-then-self-lt-PASSED_ON g c sound =
+pub returns-after-loop-word : goal.returns-after-loop-word
+returns-after-loop-word g c sound =
     let low : c.args.self.now.at + length c.args.words.now ≤ limit = omega arith in
     filled_all (handed (means g.M.Mother)) c.args.self.now c.loop-word.word-index c.loop-word.self c.args.words.now
     c.loop-word.words (omega arith) c.loop-word.auto.words low (c.loop-word.invariant sound) sound

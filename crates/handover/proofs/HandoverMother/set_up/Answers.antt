@@ -1,4 +1,3 @@
-use Rattle.std.proofs.Common.{refl}
 use Rattle.mother.specs.Means.{means}
 use Rattle.handover.proofs.Moves.{word_over, given_over, joined_over}
 use Rattle.handover.proofs.HandoverMother.set_up.Goals as goal
@@ -18,7 +17,7 @@ returns g c =
         start = f.start;
         word = word_over m s.below c.set_up.new.self key iv f;
         given = given_over m s.below c.set_up.new.self key iv f;
-        place = refl {a = 0};
-        sound = joined_over m s.below c.set_up.new.self key iv f s.ring;
+        place = c.front-self.ensures;
+        sound = joined_over m s.below c.set_up.new.self key iv f s.ring _ c.front-self.ensures;
       },
     )

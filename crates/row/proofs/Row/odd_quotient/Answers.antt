@@ -8,7 +8,8 @@ pub returns : goal.returns
 returns c =
     let z = c.args.self in
     let x = c.args.x in
-    let e = same_row c.odd_quotient-4.ensures.is c.odd_quotient-3.ensures.is c.odd_quotient-2.ensures.is c.odd_quotient.ensures.is in
+    let q = c.odd_quotient.ensures in
+    let e = same_row (q 3) (q 2) (q 1) (q 0) in
     let fit : Lanes x = omega (arith, c.well_formed) in
     let u = undoes_by Lanes (λ y. y ⊗₃₂ x) (λ t. t ⊘₃₂ x) z _ e (rows_quotient_is z x (omega (arith, c.well_formed)) fit)
     (λ y h. rows_quotient_undoes y x h fit) in

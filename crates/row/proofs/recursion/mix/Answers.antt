@@ -14,7 +14,8 @@ returns c =
     let m = c.args.m in
     let h2 : m.l2 < 2 ^ 32 = omega arith in
     let h0 : m.l0 < 2 ^ 32 = omega arith in
-    same_row
+    rw (c.from-v.ensures, c.from.ensures, c.from-2.ensures) at c.from-3.ensures
+    ∙ same_row
     (between _ _ _ _ (or_zero_r (m.l3 / 8) ∙ sym (wide_high 3 m.l3 m.l2 h2)))
     (between _ _ _ _ (sym (wide_low 3 m.l3 m.l2 (lit≤ tt) h2)))
     (between _ _ _ _ (or_zero_r (m.l1 / 8) ∙ sym (wide_high 3 m.l1 m.l0 h0)))

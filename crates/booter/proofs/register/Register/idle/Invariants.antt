@@ -3,7 +3,7 @@ use Rattle.booter.specs.Registers.{ahead}
 use Rattle.booter.specs.Calls.{held}
 use Rattle.booter.proofs.register.Register.idle.Given as goal
 
-abbrev pub invariant-loop-i : goal.invariant-loop-i
-invariant-loop-i l =
+abbrev pub invariant-loop : goal.invariant-loop
+invariant-loop l =
     (l.self.height ≡ l.initial.self.height)
-    × (held l.self ≡ ahead l.initial.self.height l._i (held l.initial.self))
+    × (held l.self ≡ ahead l.initial.self.height l.counter (held l.initial.self))

@@ -4,7 +4,8 @@ use Rattle.handover.proofs.ring.Ring.forward_into.Goals as goal
 
 pub loop-word-init : goal.loop-word-init
 loop-word-init c =
-    turning_none c.args.self.now c.args.words.now _ _ c.wrapped-middle.ensures.below c.wrapped-middle.ensures.is c.at-newest.ensures
+    turning_none c.args.self.now c.args.words.now _ _ (c.wrapped-middle.ensures.below (omega arith))
+    c.wrapped-middle.ensures.is c.at-newest.ensures
 
 pub loop-word-preserved : goal.loop-word-preserved
 loop-word-preserved c =

@@ -1,0 +1,200 @@
+ghost use Rattle.std.specs.Prelude.{◌≡◌, ◌+◌, ◌*◌, ◌/◌, ◌^◌, ◌<◌, ◌≤◌, length};
+ghost use Rattle.mother.specs.Means.{means};
+ghost use Rattle.cover.specs.Blocks.{IsWhole, GroupCovered, Made, BlocksCovered, Ends, Begins, EndsKept, Followed};
+
+use crate::rest::{Rest, xor};
+use crate::stage::{Kept, Stage};
+use keystream::Filter;
+use mother::Mother;
+use refusal::Refusal;
+
+// How many blocks a group has, each of two words.
+const GROUP: usize = 4;
+
+const GROUP_WORDS: usize = 8;
+
+// The next block, in the first bytes of the answer. The memory goes on to that of the block after it.
+fn next_block<M: Mother, F: Filter<Word = M::Word>>(
+    mother: &mut M,
+    memory: &mut F::Memory,
+) -> Result<[u8; 16], Refusal>
+    ensures { Made (means M.Mother) F.Filter mother.old memory.old result mother.new memory.new }
+{
+    let second = follow::step_on::<M, F>(mother, *memory)?;
+    let block = F::block(*memory, second);
+    *memory = follow::step_on::<M, F>(mother, second)?;
+    Ok(block)
+}
+
+// Covers one whole block.
+fn cover_block<M: Mother, F: Filter<Word = M::Word>>(
+    mother: &mut M,
+    memory: &mut F::Memory,
+    bytes: &mut [u8],
+) -> Result<(), Refusal>
+    requires { length bytes.old ≡ F.Filter.SIZE }
+    ensures { BlocksCovered (means M.Mother) F.Filter 1 mother.old memory.old bytes.old
+        result mother.new memory.new bytes.new }
+{
+    let block = next_block::<M, F>(mother, memory)?;
+    xor(bytes, &block);
+    Ok(())
+}
+
+// Covers a group of whole blocks with the words that come after the memory, and answers the memory
+// after them. A group is short, so that the next words are made while this memory is waited for.
+fn cover_group<F: Filter>(memory: F::Memory, words: &[F::Word], bytes: &mut [u8]) -> F::Memory
+    requires { (length words.now ≡ 8) × (length bytes.old ≡ 4 * F.Filter.SIZE) }
+    ensures { GroupCovered F.Filter memory words.now bytes.old result bytes.new }
+{
+    let size = F::SIZE;
+    let (pairs, _) = words.as_chunks::<2>();
+    let mut first = memory;
+    for (i, [w, x]) in pairs.iter().enumerate() {
+        let second = F::step(first, *w);
+        let block = F::block(first, second);
+        xor(&mut bytes[i * size..(i + 1) * size], &block);
+        first = F::step(second, *x);
+    }
+    first
+}
+
+// Covers groups of blocks; `words` is room for the words of a group. Here and below a part of the buffer is taken by
+// index: of `chunks_mut` and of `zip` over `iter_mut` a loop knows only how many there are.
+fn cover_groups<M: Mother, F: Filter<Word = M::Word>>(
+    mother: &mut M,
+    memory: &mut F::Memory,
+    words: &mut [M::Word],
+    bytes: &mut [u8],
+) -> Result<(), Refusal>
+    requires { (length words.old ≡ 8) × IsWhole (4 * F.Filter.SIZE) bytes.old }
+    ensures { BlocksCovered (means M.Mother) F.Filter (4 * (length bytes.old / (4 * F.Filter.SIZE)))
+        mother.old memory.old bytes.old result mother.new memory.new bytes.new }
+{
+    let size = GROUP * F::SIZE;
+    for i in 0..bytes.len() / size {
+        mother.fill(words)?;
+        *memory = cover_group::<F>(*memory, words, &mut bytes[i * size..(i + 1) * size]);
+    }
+    Ok(())
+}
+
+// Covers whole blocks, one by one.
+fn cover_singly<M: Mother, F: Filter<Word = M::Word>>(
+    mother: &mut M,
+    memory: &mut F::Memory,
+    bytes: &mut [u8],
+) -> Result<(), Refusal>
+    requires { IsWhole F.Filter.SIZE bytes.old }
+    ensures { BlocksCovered (means M.Mother) F.Filter (length bytes.old / F.Filter.SIZE)
+        mother.old memory.old bytes.old result mother.new memory.new bytes.new }
+{
+    let size = F::SIZE;
+    for i in 0..bytes.len() / size {
+        cover_block::<M, F>(mother, memory, &mut bytes[i * size..(i + 1) * size])?;
+    }
+    Ok(())
+}
+
+// Covers the last bytes, up to a block, and answers what is left of the block made for them. The memory goes on to the
+// last of that block.
+fn cover_last<M: Mother, F: Filter<Word = M::Word>>(
+    mother: &mut M,
+    memory: &mut F::Memory,
+    bytes: &mut [u8],
+) -> Result<Rest, Refusal>
+    requires { (0 < length bytes.old) × (length bytes.old ≤ F.Filter.SIZE) }
+    ensures { Ends (means M.Mother) F.Filter mother.old memory.old bytes.old
+        result mother.new memory.new bytes.new }
+{
+    let second = follow::step_on::<M, F>(mother, *memory)?;
+    let block = F::block(*memory, second);
+    *memory = second;
+    xor(bytes, &block);
+    Ok(Rest::new(block, bytes.len(), F::SIZE))
+}
+
+// Covers whole blocks, in groups as far as these go; a function of its own, since the room for a
+// group's words is lent.
+fn cover_whole<M: Mother, F: Filter<Word = M::Word>>(
+    mother: &mut M,
+    memory: &mut F::Memory,
+    bytes: &mut [u8],
+) -> Result<(), Refusal>
+    requires { IsWhole F.Filter.SIZE bytes.old }
+    ensures { BlocksCovered (means M.Mother) F.Filter (length bytes.old / F.Filter.SIZE)
+        mother.old memory.old bytes.old result mother.new memory.new bytes.new }
+{
+    M::words_are_small();
+    let mut words = [M::Word::default(); GROUP_WORDS];
+    let size = GROUP * F::SIZE;
+    let (groups, others) = bytes.split_at_mut(bytes.len() / size * size);
+    cover_groups::<M, F>(mother, memory, &mut words, groups)?;
+    cover_singly::<M, F>(mother, memory, others)
+}
+
+// Covers some bytes from the first byte of a block on, and answers what is left of the last block. The memory
+// goes on to the last of that block.
+fn cover_from<M: Mother, F: Filter<Word = M::Word>>(
+    mother: &mut M,
+    memory: &mut F::Memory,
+    bytes: &mut [u8],
+) -> Result<Rest, Refusal>
+    requires { 0 < length bytes.old }
+    ensures { Ends (means M.Mother) F.Filter mother.old memory.old bytes.old
+        result mother.new memory.new bytes.new }
+{
+    let size = F::SIZE;
+    let (blocks, last) = bytes.split_at_mut((bytes.len() - 1) / size * size);
+    cover_whole::<M, F>(mother, memory, blocks)?;
+    cover_last::<M, F>(mother, memory, last)
+}
+
+// The memory that the next block begins with.
+fn first_memory<M: Mother, F: Filter<Word = M::Word>>(
+    mother: &mut M,
+    kept: &Kept<F::Memory>,
+) -> Result<F::Memory, Refusal>
+    ensures { Begins (means M.Mother) F.Filter mother.old kept.now result mother.new }
+{
+    match kept {
+        Kept::First(memory) => Ok(*memory),
+        Kept::Last(memory) => follow::step_on::<M, F>(mother, *memory),
+    }
+}
+
+// The same from the memory that is kept.
+pub fn cover_blocks<M: Mother, F: Filter<Word = M::Word>>(
+    mother: &mut M,
+    kept: &mut Kept<F::Memory>,
+    bytes: &mut [u8],
+) -> Result<Rest, Refusal>
+    requires { 0 < length bytes.old }
+    ensures { EndsKept (means M.Mother) F.Filter mother.old kept.old bytes.old
+        result mother.new kept.new bytes.new }
+{
+    let mut memory = first_memory::<M, F>(mother, kept)?;
+    let rest = cover_from::<M, F>(mother, &mut memory, bytes)?;
+    *kept = Kept::Last(memory);
+    Ok(rest)
+}
+
+// Covers all of `bytes`: with the rest of the block made last, and then with new blocks.
+pub fn cover_all<M: Mother, F: Filter<Word = M::Word>>(
+    mother: &mut M,
+    stage: &mut Stage<F::Memory>,
+    bytes: &mut [u8],
+) -> Result<(), Refusal>
+    requires { stage.old.position + length bytes.old ≤ 2 ^ 32 }
+    ensures { Followed (means M.Mother) F.Filter mother.old stage.old bytes.old
+        result mother.new stage.new bytes.new }
+{
+    let used = stage.rest.cover(bytes);
+    stage.position += bytes.len() as u64;
+    if used == bytes.len() {
+        return Ok(());
+    }
+    let (_, tail) = bytes.split_at_mut(used);
+    stage.rest = cover_blocks::<M, F>(mother, &mut stage.memory, tail)?;
+    Ok(())
+}

@@ -1,0 +1,77 @@
+ghost use Rattle.std.specs.Prelude.{◌≡◌, ◌^◌, ◌≤◌};
+ghost use Rattle.mother.specs.Places.{After, Before, Passed};
+
+use crate::LIMIT;
+use refusal::Refusal;
+use std::marker::Model;
+
+// A place in a list of 2^34 words: the index of the word to come, or 2^34 past the last.
+#[derive(Clone, Copy)]
+pub struct Place {
+    index: u64,
+}
+
+impl Model for Place {
+    ghost use Rattle.std.specs.Prelude.{ℕ, ◌^◌, ◌≤◌};
+
+    ghost Value = { ℕ };
+
+    ghost view = { λ p. p.index };
+
+    ghost invariant = { λ p. p.index ≤ 2 ^ 34 };
+
+    ghost inverse = { λ n. record { index = n } };
+}
+
+impl Place {
+    // Before the first word.
+    pub fn front() -> Place
+        ensures { result ≡ 0 }
+    {
+        Place { index: 0 }
+    }
+
+    pub fn index(self) -> u64
+        ensures is { result ≡ self }
+        ensures low { result ≤ 2 ^ 34 }
+    {
+        let Place { index } = self;
+        index
+    }
+
+    // The place after the word to come, if there is one.
+    pub fn after(self) -> Result<Place, Refusal>
+        ensures { After self result }
+    {
+        if self.index == LIMIT {
+            return Err(Refusal::PastLast);
+        }
+        Ok(Place {
+            index: self.index + 1,
+        })
+    }
+
+    // The place before the word passed last, if there is one.
+    pub fn before(self) -> Result<Place, Refusal>
+        ensures { Before self result }
+    {
+        if self.index == 0 {
+            return Err(Refusal::BeforeFirst);
+        }
+        Ok(Place {
+            index: self.index - 1,
+        })
+    }
+
+    // The place after `count` words more, if there are as many.
+    pub fn past(self, count: u64) -> Result<Place, Refusal>
+        ensures { Passed self count result }
+    {
+        if count > LIMIT - self.index {
+            return Err(Refusal::PastLast);
+        }
+        Ok(Place {
+            index: self.index + count,
+        })
+    }
+}
