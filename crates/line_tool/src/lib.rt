@@ -13,8 +13,8 @@ fn print_line<R: Print>(rt: &R, mut text: Vec<u8>) -> io::Result<()> {
     io::writer(rt).write_all(&text)
 }
 
-// Prints what is answered to each line of the input, before it reads on. The library has no words for what a program
-// prints, so this has no `ensures`; how bytes become lines is that of `Pending`.
+// Prints what is answered to each line of the input, before it reads on. It has no `ensures`: what the host's own reader
+// and writer hold is not known, so one over these would be empty. How bytes become lines is said by `Pending`.
 pub fn answer_lines<
     const MOST: usize,
     R: Input + Print + AllocGlobal,
