@@ -26,17 +26,26 @@ module _ {M F W Y : Type 0} (m : Generator M W) (f : Ghosts F W Y) where
   abbrev pub AtBlock : M → Y → Words W → ℕ → Type 0
   AtBlock s y ws i = Follows m f s y ws (2 * i)
 
-  -- block i as the first bytes of an array
+  -- block i as the first bytes of an array, and its last memory, with the words of the block and no more
+  abbrev pub MadeLast : M → Y → Result (List ℕ × Y) Refusal → M → Type 0
+  MadeLast s y r s' =
+      (ws : Words W) (i : ℕ) → AtBlock s y ws i → 2 * i + 1 ≤ limit
+      → MatchResult r (λ b. (take f.SIZE b.0 ≡ block_bytes f ws i) × Follows m f s' b.1 ws (2 * i + 1)
+      × (m.given s' ≡ m.given s)) (λ _. ⊥)
+
+  -- the same, and the first memory of the block after it
   abbrev pub Made : M → Y → Result (List ℕ) Refusal → M → Y → Type 0
   Made s y r s' y' =
       (ws : Words W) (i : ℕ) → AtBlock s y ws i → 2 * (i + 1) ≤ limit
-      → MatchResult r (λ b. (take f.SIZE b ≡ block_bytes f ws i) × AtBlock s' y' ws (i + 1) × (m.given s' ≡ m.given s)) (λ _. ⊥)
+      → MatchResult r (λ b. (take f.SIZE b ≡ block_bytes f ws i) × AtBlock s' y' ws (i + 1)
+      × (m.given s' ≡ m.given s)) (λ _. ⊥)
 
   -- n whole blocks from block i on are covered
   abbrev pub BlocksCovered : ℕ → M → Y → List ℕ → Result (Unit {0}) Refusal → M → Y → List ℕ → Type 0
   BlocksCovered n s y old r s' y' new =
       (ws : Words W) (i : ℕ) → AtBlock s y ws i → 2 * (i + n) ≤ limit
-      → MatchResult r (λ _. (new ≡ covered (byte_at f ws) (i * f.SIZE) old) × AtBlock s' y' ws (i + n) × (m.given s' ≡ m.given s)) (λ _. ⊥)
+      → MatchResult r (λ _. (new ≡ covered (byte_at f ws) (i * f.SIZE) old) × AtBlock s' y' ws (i + n)
+      × (m.given s' ≡ m.given s)) (λ _. ⊥)
 
   -- after `made` blocks: these took the words before 2 * made - 1, and no more were asked for
   abbrev pub KeptAt : M → Kept Y → Words W → ℕ → Type 0
@@ -80,4 +89,5 @@ module _ {M F W Y : Type 0} (m : Generator M W) (f : Ghosts F W Y) where
   abbrev pub Followed : M → Stage Y → List ℕ → Result (Unit {0}) Refusal → M → Stage Y → List ℕ → Type 0
   Followed s st old r s' st' new =
       (ws : Words W) (p : ℕ) → At s st ws p → p + length old ≤ 2 ^ 32
-      → MatchResult r (λ _. (new ≡ covered (byte_at f ws) p old) × At s' st' ws (p + length old) × (m.given s' ≡ m.given s)) (λ _. ⊥)
+      → MatchResult r (λ _. (new ≡ covered (byte_at f ws) p old) × At s' st' ws (p + length old)
+      × (m.given s' ≡ m.given s)) (λ _. ⊥)

@@ -1,4 +1,5 @@
 pub mod Lists
+pub mod Positions
 pub mod Blocks
 pub mod Stretches
 pub mod Covers

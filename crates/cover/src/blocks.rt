@@ -1,6 +1,7 @@
 ghost use Rattle.std.specs.Prelude.{◌≡◌, ◌+◌, ◌*◌, ◌/◌, ◌^◌, ◌<◌, ◌≤◌, length};
 ghost use Rattle.mother.specs.Means.{means};
-ghost use Rattle.cover.specs.Blocks.{IsWhole, GroupCovered, Made, BlocksCovered, Ends, Begins, EndsKept, Followed};
+ghost use Rattle.cover.specs.Blocks.{IsWhole, GroupCovered, MadeLast, Made, BlocksCovered};
+ghost use Rattle.cover.specs.Blocks.{Ends, Begins, EndsKept, Followed};
 
 use crate::rest::{Rest, xor};
 use crate::stage::{Kept, Stage};
@@ -13,16 +14,26 @@ const GROUP: usize = 4;
 
 const GROUP_WORDS: usize = 8;
 
-// The next block, in the first bytes of the answer. The memory goes on to that of the block after it.
+// The next block, in the first bytes of an array, and the last memory of it.
+fn block_from<M: Mother, F: Filter<Word = M::Word>>(
+    mother: &mut M,
+    memory: F::Memory,
+) -> Result<([u8; 16], F::Memory), Refusal>
+    ensures { MadeLast (means M.Mother) F.Filter mother.old memory result mother.new }
+{
+    let second = follow::step_on::<M, F>(mother, memory)?;
+    Ok((F::block(memory, second), second))
+}
+
+// The next block, and the memory goes on to that of the block after it.
 fn next_block<M: Mother, F: Filter<Word = M::Word>>(
     mother: &mut M,
     memory: &mut F::Memory,
 ) -> Result<[u8; 16], Refusal>
     ensures { Made (means M.Mother) F.Filter mother.old memory.old result mother.new memory.new }
 {
-    let second = follow::step_on::<M, F>(mother, *memory)?;
-    let block = F::block(*memory, second);
-    *memory = follow::step_on::<M, F>(mother, second)?;
+    let (block, last) = block_from::<M, F>(mother, *memory)?;
+    *memory = follow::step_on::<M, F>(mother, last)?;
     Ok(block)
 }
 
@@ -42,7 +53,8 @@ fn cover_block<M: Mother, F: Filter<Word = M::Word>>(
 }
 
 // Covers a group of whole blocks with the words that come after the memory, and answers the memory
-// after them. A group is short, so that the next words are made while this memory is waited for.
+// after them. A group is short, so that the next words are made while this memory is waited for. The words are lent as
+// a slice, as `fill` takes them: it says that their number stays, which an array would not spare it.
 fn cover_group<F: Filter>(memory: F::Memory, words: &[F::Word], bytes: &mut [u8]) -> F::Memory
     requires { (length words.now ≡ 8) × (length bytes.old ≡ 4 * F.Filter.SIZE) }
     ensures { GroupCovered F.Filter memory words.now bytes.old result bytes.new }
@@ -107,9 +119,8 @@ fn cover_last<M: Mother, F: Filter<Word = M::Word>>(
     ensures { Ends (means M.Mother) F.Filter mother.old memory.old bytes.old
         result mother.new memory.new bytes.new }
 {
-    let second = follow::step_on::<M, F>(mother, *memory)?;
-    let block = F::block(*memory, second);
-    *memory = second;
+    let (block, last) = block_from::<M, F>(mother, *memory)?;
+    *memory = last;
     xor(bytes, &block);
     Ok(Rest::new(block, bytes.len(), F::SIZE))
 }

@@ -7,11 +7,13 @@ ghost use Rattle.cover.specs.Covers.{Empty, SetsUp, Covers};
 use blocks::cover_all;
 use keystream::Filter;
 use mother::Mother;
+use position::past;
 use refusal::Refusal;
 use rest::Rest;
 use stage::{Kept, Stage};
 
 mod blocks;
+pub mod position;
 pub mod range;
 mod rest;
 mod stage;
@@ -62,9 +64,7 @@ impl<M: Mother, F: Filter<Word = M::Word>> Cover<M, F> {
             return Err(Refusal::NotBegun);
         };
         let first = stage.position;
-        if bytes.len() as u64 > LIMIT - first {
-            return Err(Refusal::PositionLimit);
-        }
+        let _ = past(first, bytes.len())?;
         cover_all::<M, F>(&mut self.mother, stage, bytes)?;
         Ok(first)
     }

@@ -2,7 +2,8 @@ ghost use Rattle.std.specs.Prelude.{◌≤◌};
 ghost use Rattle.mother.specs.Means.{means};
 ghost use Rattle.cover.specs.Covers.{Passes, Streams};
 
-use crate::{Cover, LIMIT};
+use crate::Cover;
+use crate::position::past;
 use keystream::Filter;
 use mother::Mother;
 use refusal::Refusal;
@@ -49,9 +50,7 @@ pub fn keystream<M: Mother + Drop, F: Filter<Word = M::Word>>(
 {
     let mut cover = Cover::<M, F>::new(mother);
     cover.set_up(key, iv)?;
-    if from > LIMIT || out.len() as u64 > LIMIT - from {
-        return Err(Refusal::PositionLimit);
-    }
+    let _ = past(from, out.len())?;
     if out.is_empty() {
         return Ok(());
     }

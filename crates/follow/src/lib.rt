@@ -5,9 +5,13 @@ ghost use Rattle.follow.specs.Follows.{SetsUp, GoesOn, GoesBack};
 
 use keystream::Filter;
 use keystream::two_way::TwoWayFilter;
+use mother::Mother;
+use mother::place::past;
 use mother::two_way::TwoWay;
-use mother::{LIMIT, Mother};
 use refusal::Refusal;
+
+// The generator and the memory that follows it are two arguments throughout: they have different owners, and before a
+// set-up there is a generator and no memory.
 
 // Sets up the generator, and answers the first memory.
 pub fn set_up<M: Mother, F: TwoWayFilter + Filter<Word = M::Word>>(
@@ -53,10 +57,7 @@ pub fn on<M: Mother, F: Filter<Word = M::Word>>(
 ) -> Result<F::Memory, Refusal>
     ensures { GoesOn (means M.Mother) F.Filter mother.old memory words result mother.new }
 {
-    let place = mother.place();
-    if place > LIMIT || words > LIMIT - place {
-        return Err(Refusal::PastLast);
-    }
+    let _ = past(mother.place(), words)?;
     let mut y = memory;
     for _i in 0..words {
         y = step_on::<M, F>(mother, y)?;

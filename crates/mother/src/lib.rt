@@ -3,6 +3,7 @@
 ghost use Rattle.std.specs.Prelude.{◌≡◌, ℕ, List};
 ghost use Rattle.mother.specs.Generators.{Words, generator, SetUp, Next, Fills, Small};
 
+use place::past;
 use refusal::Refusal;
 
 pub mod place;
@@ -28,7 +29,8 @@ pub trait Mother {
     // that the state is one that a set-up and moves lead to
     ghost sound: { Self → Type 0 };
 
-    // Fixes the start word and the words by a key and an IV, and goes to place 0.
+    // Fixes the start word and the words by a key and an IV, and goes to place 0. The two are separate arguments
+    // everywhere, as C passes them and as every description of the cipher has them.
     fn set_up(&mut self, key: &[u8], iv: &[u8]) -> Result<Self::Word, Refusal>
         ensures { SetUp (generator start word place given sound) self.old
             key.now iv.now result self.new };
@@ -43,10 +45,7 @@ pub trait Mother {
         ensures { Fills (generator start word place given sound) self.old words.old
             result self.new words.new }
     {
-        let place = self.place();
-        if place > LIMIT || words.len() as u64 > LIMIT - place {
-            return Err(Refusal::PastLast);
-        }
+        let _ = past(self.place(), words.len() as u64)?;
         for word in words.iter_mut() {
             *word = self.next()?;
         }

@@ -5,6 +5,16 @@ use crate::LIMIT;
 use refusal::Refusal;
 use std::marker::Model;
 
+// The index `count` places after another, if the list goes as far.
+pub fn past(index: u64, count: u64) -> Result<u64, Refusal>
+    ensures { Passed index count result }
+{
+    index
+        .checked_add(count)
+        .filter(|end| *end <= LIMIT)
+        .ok_or(Refusal::PastLast)
+}
+
 // A place in a list of 2^34 words: the index of the word to come, or 2^34 past the last.
 #[derive(Clone, Copy)]
 pub struct Place {
@@ -43,11 +53,8 @@ impl Place {
     pub fn after(self) -> Result<Place, Refusal>
         ensures { After self result }
     {
-        if self.index == LIMIT {
-            return Err(Refusal::PastLast);
-        }
         Ok(Place {
-            index: self.index + 1,
+            index: past(self.index, 1)?,
         })
     }
 
@@ -67,11 +74,8 @@ impl Place {
     pub fn past(self, count: u64) -> Result<Place, Refusal>
         ensures { Passed self count result }
     {
-        if count > LIMIT - self.index {
-            return Err(Refusal::PastLast);
-        }
         Ok(Place {
-            index: self.index + count,
+            index: past(self.index, count)?,
         })
     }
 }

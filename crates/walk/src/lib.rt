@@ -6,8 +6,9 @@ ghost use Rattle.walk.specs.Walks.{MovedOn, MovedBack, Walked};
 ghost use Rattle.walk.specs.Visits.{Visited};
 ghost use Rattle.walk.specs.declared.WalkError.TheVariants.{Refusal as by_refusal, NoMemory};
 
+use mother::Mother;
+use mother::place::past;
 use mother::two_way::TwoWay;
-use mother::{LIMIT, Mother};
 use refusal::Refusal;
 use std::alloc::{AllocError, AllocFailed, Global};
 
@@ -60,9 +61,7 @@ fn back_to<M: TwoWay>(mother: &mut M, place: u64) -> Result<M::Word, Refusal>
 pub fn word_at<M: TwoWay>(mother: &mut M, place: u64) -> Result<M::Word, Refusal>
     ensures { Walked (means M.Mother) mother.old place result mother.new }
 {
-    if place >= LIMIT {
-        return Err(Refusal::PastLast);
-    }
+    let _ = past(place, 1)?;
     if mother.place() <= place {
         on_to(mother, place)
     } else {

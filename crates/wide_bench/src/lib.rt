@@ -5,7 +5,8 @@ ghost use Rattle.mother.specs.Means.{means};
 ghost use Rattle.wide_bench.specs.Pieces.{InPieces, CoversWide, number_of};
 
 use booter::Booter;
-use cover::{Cover, LIMIT};
+use cover::Cover;
+use cover::position::past;
 use handover::Handover;
 use keystream::Filter;
 use keystream::wide::Wide;
@@ -39,9 +40,7 @@ fn cover_pieces(key: &[u8], iv: &[u8], bytes: &mut [u8], piece: usize) -> Result
 {
     let mut cover = Cover::<Handover<Booter>, Wide>::new(Handover::new(Booter::new()));
     cover.set_up(key, iv)?;
-    if bytes.len() as u64 > LIMIT {
-        return Err(Refusal::PositionLimit);
-    }
+    let _ = past(0, bytes.len())?;
     in_pieces(&mut cover, bytes, piece)
 }
 

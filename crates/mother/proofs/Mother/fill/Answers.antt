@@ -13,9 +13,9 @@ loop-word-init g c sound = filled_none (means g) c.args.self.now c.args.words.no
 
 pub returns-in_err-word : goal.returns-in_err-word
 returns-in_err-word g c =
-    let p = err_from_is_err_and c.from_residual.result c.from_residual.ensures.1 in
+    let p = err_from_is_err_and c.from_residual-in_err-word.result c.from_residual-in_err-word.ensures.1 in
     rw p.1 (λ sound.
-    let low : g.Self.Mother.place c.args.self.now + length c.args.words.now ≤ limit = omega (arith, c.place-place.ensures) in
+    let low : g.Self.Mother.place c.args.self.now + length c.args.words.now ≤ limit = omega (arith, c.place.ensures, c.in_ok-past.ensures.0) in
     absurd (not_refused (means g) c.args.self.now c.loop-word.word-index (length c.args.words.now) c.loop-word.self c.next.new.self
     c.loop-word.words _ (omega arith) low (c.loop-word.invariant sound) c.in_err-word.ensures))
 
@@ -26,6 +26,6 @@ loop-word-preserved g c sound =
 
 pub returns : goal.returns
 returns g c sound =
-    let low : g.Self.Mother.place c.args.self.now + length c.args.words.now ≤ limit = omega (arith, c.place-place.ensures) in
+    let low : g.Self.Mother.place c.args.self.now + length c.args.words.now ≤ limit = omega (arith, c.place.ensures, c.in_ok-past.ensures.0) in
     filled_all (means g) c.args.self.now c.loop-word.word-index c.loop-word.self c.args.words.now c.loop-word.words
     (omega arith) c.loop-word.auto.words low (c.loop-word.invariant sound) sound
