@@ -1,6 +1,7 @@
--- What the fields of a line hold.
-use Rattle.digits.specs.declared.line.Fields.{Fields}
-use Rattle.digits.specs.Lines.{Parts}
+-- What the head of a line holds.
+use Rattle.std.specs.Prelude.{vec_items}
+use Rattle.digits.specs.declared.line.Head.{Head}
+use Rattle.digits.specs.Lines.{Heading}
 
-abbrev pub held : Fields → Parts
-held f = record { kind = f.kind.now; key = f.key.now; iv = f.iv.now; rest = f.rest.now }
+abbrev pub headed : {K : Type 0} → Head K → Heading K
+headed h = record { kind = h.kind; key = vec_items h.key; iv = vec_items h.iv; rest = h.rest.now }

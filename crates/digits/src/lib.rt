@@ -22,12 +22,9 @@ pub fn decimal(text: &[u8]) -> Option<u64>
     if text.is_empty() || text.len() > MOST_DIGITS {
         return None;
     }
-    let mut value = 0u64;
+    let mut value = 0;
     for b in text {
-        let b'0'..=b'9' = *b else {
-            return None;
-        };
-        value = value * 10 + u64::from(*b - b'0');
+        value = value * 10 + u64::from(char::from(*b).to_digit(10)?);
     }
     Some(value)
 }

@@ -40,14 +40,6 @@ impl TryFrom<u8> for Nibble {
     }
 }
 
-impl From<Nibble> for u8 {
-    ghost from_gives = { λ n v. (v ≡ n) × (v < 16) };
-
-    fn from(half: Nibble) -> u8 {
-        half.value
-    }
-}
-
 impl Nibble {
     // The higher and the lower half of a byte.
     pub fn both(b: u8) -> (Nibble, Nibble)

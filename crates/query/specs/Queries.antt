@@ -1,9 +1,8 @@
 -- What a line asks for.
-use Rattle.std.specs.Prelude.{ℕ, cond, List, length, Some, None, codes, Option, nat_le}
+use Rattle.std.specs.Prelude.{ℕ, cond, List, Some, None, codes, Option, nat_le}
 use Rattle.std.specs.Str.{bytes_eq}
-use Rattle.digits.specs.Digits.{◌⟫◌, hex_of, decimal_of}
-use Rattle.digits.specs.Cuts.{cut_of}
-use Rattle.digits.specs.Lines.{fields_of}
+use Rattle.digits.specs.Digits.{◌⟫◌, decimal_of}
+use Rattle.digits.specs.Lines.{field_of, head_of}
 use Rattle.query.specs.declared.Kind.{Kind}
 use Rattle.query.specs.declared.Kind.TheVariants.{Wide}
 
@@ -27,15 +26,11 @@ up_to most n = cond (nat_le n most) (Some n) None
 abbrev pub count_of : List ℕ → Option ℕ
 count_of bs = decimal_of bs ⟫ up_to 4096
 
--- what a line KIND KEY IV FROM COUNT of at most 4096 bytes asks for. The last field is all that is left, so a sixth field
--- would be part of it
+-- what a line KIND KEY IV FROM COUNT asks for. The last field is all that is left, so a sixth field would be part of it
 abbrev pub query_of : List ℕ → Option Asked
 query_of line =
-    cond (nat_le (length line) 4096) (fields_of line) None ⟫ λ f.
-    cut_of 32 f.rest ⟫ λ part.
-    kind_of f.kind ⟫ λ kind.
-    hex_of f.key ⟫ λ key.
-    hex_of f.iv ⟫ λ iv.
+    head_of kind_of line ⟫ λ h.
+    field_of h.rest ⟫ λ part.
     decimal_of part.0 ⟫ λ from.
     count_of part.1 ⟫ λ count.
-    Some (record { kind = kind; key = key; iv = iv; from = from; count = count })
+    Some (record { kind = h.kind; key = h.key; iv = h.iv; from = from; count = count })

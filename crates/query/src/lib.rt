@@ -6,10 +6,9 @@ ghost use Rattle.query.specs.Queries.{kind_of, count_of, query_of};
 ghost use Rattle.query.specs.Parsing.{asked};
 ghost use Rattle.query.specs.Answers.{Streams, answer_of, printed_of};
 
-use digits::fields::cut;
-use digits::line::{LONGEST, LineError, SPACE, split};
+use digits::line::{Head, LineError, Named, field};
 use digits::refusals::refusal_text;
-use digits::{decimal, hex, push_hex};
+use digits::{decimal, push_hex};
 use refusal::Refusal;
 use std::alloc::{AllocError, Global};
 
@@ -22,17 +21,14 @@ pub enum Kind {
     Wide,
 }
 
-// The kind of a name.
-impl TryFrom<&[u8]> for Kind {
-    type Error = LineError;
+impl Named for Kind {
+    ghost named = { kind_of };
 
-    ghost try_from_gives = { λ name r. Parses kind_of (λ kind. kind) name.now r };
-
-    fn try_from(name: &[u8]) -> Result<Self, LineError> {
+    fn named(name: &[u8]) -> Option<Self> {
         if name == b"wide".as_slice() {
-            Ok(Kind::Wide)
+            Some(Kind::Wide)
         } else {
-            Err(LineError::Malformed)
+            None
         }
     }
 }
@@ -55,30 +51,23 @@ fn counted(text: &[u8]) -> Option<usize>
     if n > MOST { None } else { Some(n as usize) }
 }
 
-// What a line asks for. A line of more than `LONGEST` bytes is malformed.
+// What a line asks for.
 pub fn parse(heap: Global, line: &[u8]) -> Result<Query, LineError>
     ensures { Parses query_of asked line.now result }
 {
-    if line.len() > LONGEST {
-        return Err(LineError::Malformed);
-    }
-    let fields = split(line).ok_or(LineError::Malformed)?;
-    let (from, count) = cut(fields.rest, SPACE).ok_or(LineError::Malformed)?;
-    let kind = Kind::try_from(fields.kind)?;
-    let key = hex(heap, fields.key)?;
-    let iv = hex(heap, fields.iv)?;
-    let from = decimal(from).ok_or(LineError::Malformed)?;
-    let count = counted(count).ok_or(LineError::Malformed)?;
+    let head = Head::parse(heap, line)?;
+    let (from, count) = field(head.rest)?;
     Ok(Query {
-        kind,
-        key,
-        iv,
-        from,
-        count,
+        kind: head.kind,
+        key: head.key,
+        iv: head.iv,
+        from: decimal(from).ok_or(LineError::Malformed)?,
+        count: counted(count).ok_or(LineError::Malformed)?,
     })
 }
 
-// Writes the keystream bytes that a query asks for over `out`. (A kind picks a type; there is one today.)
+// Writes the keystream bytes that a query asks for over `out`. A kind picks a generator and a filter, with words of a
+// type of their own, which a `dyn` could not name; there is one today.
 fn stream(query: &Query, out: &mut [u8]) -> Result<(), Refusal>
     requires { length out.old ≡ query.now.count }
     ensures { Streams (asked query.now) result out.new }
@@ -103,7 +92,8 @@ fn answer_to(heap: Global, query: &Query) -> Result<Vec<u8>, AllocError>
     }
 }
 
-// What is printed for a line, without the byte that ends it.
+// What is printed for a line, without the byte that ends it. (`walk_tool` has these two arms too, over another request
+// and under another contract; what a bad line gets is `told` in both.)
 pub fn answer(heap: Global, line: &[u8]) -> Result<Vec<u8>, AllocError>
     ensures { IfOk result (λ text. text.items ≡ printed_of line.now) }
 {

@@ -3,8 +3,7 @@ ghost use Rattle.walk_lines.specs.Requests.{kind_of, request_of};
 ghost use Rattle.walk_lines.specs.Parsing.{asked};
 
 use digits::fields::decimals;
-use digits::hex;
-use digits::line::{LONGEST, LineError, split};
+use digits::line::{Head, LineError, Named};
 use std::alloc::Global;
 
 const COMMA: u8 = b',';
@@ -17,21 +16,18 @@ pub enum Kind {
     Lanes,
 }
 
-// The kind of a name.
-impl TryFrom<&[u8]> for Kind {
-    type Error = LineError;
+impl Named for Kind {
+    ghost named = { kind_of };
 
-    ghost try_from_gives = { λ name r. Parses kind_of (λ kind. kind) name.now r };
-
-    fn try_from(name: &[u8]) -> Result<Self, LineError> {
+    fn named(name: &[u8]) -> Option<Self> {
         if name == b"booter".as_slice() {
-            Ok(Kind::Booter)
+            Some(Kind::Booter)
         } else if name == b"handover".as_slice() {
-            Ok(Kind::Handover)
+            Some(Kind::Handover)
         } else if name == b"lanes".as_slice() {
-            Ok(Kind::Lanes)
+            Some(Kind::Lanes)
         } else {
-            Err(LineError::Malformed)
+            None
         }
     }
 }
@@ -45,22 +41,15 @@ pub struct Request {
     pub places: Vec<u64>,
 }
 
-// What a line asks for. A line of more than `LONGEST` bytes is malformed.
+// What a line asks for.
 pub fn parse(heap: Global, line: &[u8]) -> Result<Request, LineError>
     ensures { Parses request_of asked line.now result }
 {
-    if line.len() > LONGEST {
-        return Err(LineError::Malformed);
-    }
-    let fields = split(line).ok_or(LineError::Malformed)?;
-    let kind = Kind::try_from(fields.kind)?;
-    let key = hex(heap, fields.key)?;
-    let iv = hex(heap, fields.iv)?;
-    let places = decimals(heap, fields.rest, COMMA)?;
+    let head = Head::parse(heap, line)?;
     Ok(Request {
-        kind,
-        key,
-        iv,
-        places,
+        kind: head.kind,
+        key: head.key,
+        iv: head.iv,
+        places: decimals(heap, head.rest, COMMA)?,
     })
 }
