@@ -1,8 +1,9 @@
 -- The lines of an input.
-use Rattle.std.specs.Prelude.{◌≡◌, ◌≢◌, ℕ, ◌+◌, ◌≤◌, cond, List, [], ◌∷◌, ◌++◌, length, take, map, Some, None, Ok, Err, All, Option, Result, Vec, ◌==◌}
+use Rattle.std.specs.Prelude.{◌≡◌, ◌≢◌, ℕ, ◌+◌, ◌≤◌, cond, List, [], ◌∷◌, ◌++◌, length, take, map, Some, None, Ok, Err, IfSome, All, Option, Result, Vec, ◌==◌}
 use Rattle.std.specs.declared.alloc.AllocError.{AllocError}
 use Rattle.std.specs.declared.alloc.Global.{Global}
 use Rattle.std.specs.List.{onto_first}
+use Rattle.std.specs.Io.KnownBytes.{Appends}
 
 -- the byte 10 ends a line, and the end of the input ends one that has begun
 abbrev pub lines_of : List ℕ → List (List ℕ)
@@ -30,3 +31,21 @@ Takes most line b (Ok (Some whole)) line' =
     (rest : List ℕ) → kept_of most (line ++ b ∷ rest) ≡ whole.items ∷ kept_of most (line' ++ rest)
 Takes most line b (Ok None) line' = (rest : List ℕ) → kept_of most (line ++ b ∷ rest) ≡ kept_of most (line' ++ rest)
 Takes most line b (Err e) line' = line' ≡ line
+
+-- what a tool prints, where `answers line text` says that text may be its answer to a line
+module _ (answers : List ℕ → List ℕ → Type 0) where
+  -- an answer to each line in turn, with the byte 10 behind each
+  abbrev pub Prints : List (List ℕ) → List ℕ → Type 0
+  Prints [] text = text ≡ []
+  Prints (line ∷ lines) text =
+      (answer rest : List ℕ) × answers line answer × Prints lines rest × (text ≡ answer ++ 10 ∷ rest)
+
+  -- what a writer holds, where that is known, grows by such a text
+  pub record Printed (lines : List (List ℕ)) (old new : Option (List ℕ)) : Type 0 where
+    pub text : List ℕ
+    pub right : Prints lines text
+    pub added : Appends old new text
+
+  -- the lines of an input are answered, where its bytes are known
+  abbrev pub Answered : ℕ → Option (List ℕ) → Option (List ℕ) → Option (List ℕ) → Type 0
+  Answered most input old new = IfSome input (λ bytes. Printed (kept_of most bytes) old new)

@@ -6,7 +6,7 @@ use std::marker::Model;
 use std::mem;
 
 // What ends a line.
-const END: u8 = b'\n';
+pub(crate) const END: u8 = b'\n';
 
 // A line that has begun. Of one that is too long it keeps one byte more than the longest may have: what is kept is too
 // long too.

@@ -78,7 +78,7 @@ fn told<W: Printed>(heap: Global, walk: Result<Vec<W>, WalkError>) -> Result<Vec
     }
 }
 
-// Each kind is a generator of another type, which the match picks.
+// Each kind is a generator of another type with words of another type, which a `dyn` could not name.
 fn answer_to(heap: Global, request: &Request) -> Result<Vec<u8>, AllocError> {
     let booter = Booter::new();
     match request.kind {
@@ -91,7 +91,8 @@ fn answer_to(heap: Global, request: &Request) -> Result<Vec<u8>, AllocError> {
     }
 }
 
-// What is printed for a line, without the byte that ends it.
+// What is printed for a line, without the byte that ends it. (`query` has these two arms too, over another request and
+// under another contract; what a bad line gets is `told` in both.)
 pub(crate) fn answer(heap: Global, line: &[u8]) -> Result<Vec<u8>, AllocError>
     ensures { IfOk result (λ text. request_of line.now ≡ None → text.items ≡ refusal_text BadLine) }
 {
