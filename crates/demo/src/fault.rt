@@ -32,10 +32,7 @@ impl Fault {
     // Says why the demo stops: a refusal by its number, and want of memory as an error.
     pub(crate) fn tell(&self, rt: &HostRuntime) -> io::Result<()> {
         match self {
-            Fault::Refused(refusal) => {
-                let number = refusal.number();
-                println!(rt; "refused: {number}")
-            }
+            Fault::Refused(refusal) => println!(rt; "refused: {refusal}"),
             Fault::NoMemory(_) => eprintln!(rt; "no memory"),
             Fault::Io(_) => Ok(()),
         }

@@ -141,7 +141,8 @@ impl Row {
             .undo_by(16)
     }
 
-    // x ^ x[1][0][3][2] >>32 2
+    // x ^ x[1][0][3][2] >>32 2. As with the perm-shifts, one function for this and `perm_shift3` would hide two
+    // equations.
     #[tactic(auto, unfolding(crate::specs::Undone::undo2))]
     fn undo_two(self) -> Row
         ensures { result ≡ undo2 self }

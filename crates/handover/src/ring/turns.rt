@@ -46,7 +46,8 @@ impl Ring {
         }
     }
 
-    // The row `k` after the oldest.
+    // The row `k` after the oldest. (The booter's register has this line too, over an array of another length.) Each
+    // `k` is a constant: a type for it would guard nothing.
     fn at(&self, k: usize) -> Row
         requires { k < 156 }
         ensures { result ≡ kth_of self.now k }
@@ -116,7 +117,8 @@ impl Ring {
         newest
     }
 
-    // Records the word `n` below. With the last the row x_156 is made, which no word shows.
+    // Records the word `n` below. With the last the row x_156 is made, which no word shows. The caller has compared
+    // `n` with 156, to choose between two generators; a type for it would compare once more.
     pub(crate) fn record(&mut self, n: usize, word: Row)
         requires { n < 156 }
         ensures { RecordedNext self.old n word self.new }
