@@ -6,7 +6,7 @@ ghost use Rattle.follow.specs.Follows.{SetsUp, GoesOn, GoesBack};
 use keystream::Filter;
 use keystream::two_way::TwoWayFilter;
 use mother::Mother;
-use mother::place::past;
+use mother::place::{before, past};
 use mother::two_way::TwoWay;
 use refusal::Refusal;
 
@@ -73,9 +73,7 @@ pub fn back<M: TwoWay, F: TwoWayFilter + Filter<Word = M::Word>>(
 ) -> Result<F::Memory, Refusal>
     ensures { GoesBack (means M.Mother) F.Filter F.held mother.old memory words result mother.new }
 {
-    if words > mother.place() {
-        return Err(Refusal::BeforeFirst);
-    }
+    let _ = before(mother.place(), words)?;
     let mut y = memory;
     for _i in 0..words {
         y = step_back::<M, F>(mother, y)?;

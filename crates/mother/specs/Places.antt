@@ -9,6 +9,11 @@ abbrev pub Passed : ℕ → ℕ → Result ℕ Refusal → Type 0
 Passed n k (Ok n') = (n + k ≤ limit) × (n' ≡ n + k)
 Passed n k (Err e) = (limit < n + k) × (numbered e ≡ 15)
 
+-- k places back; refused by 14 exactly where these would pass the front
+abbrev pub Preceded : ℕ → ℕ → Result ℕ Refusal → Type 0
+Preceded n k (Ok n') = (k ≤ n) × (n' ≡ n - k)
+Preceded n k (Err e) = (n < k) × (numbered e ≡ 14)
+
 -- one place on; refused by 15 exactly at the limit
 abbrev pub After : ℕ → Result ℕ Refusal → Type 0
 After n (Ok n') = (n < limit) × (n' ≡ n + 1)

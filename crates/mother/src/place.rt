@@ -1,5 +1,5 @@
 ghost use Rattle.std.specs.Prelude.{◌≡◌, ◌^◌, ◌≤◌};
-ghost use Rattle.mother.specs.Places.{After, Before, Passed};
+ghost use Rattle.mother.specs.Places.{After, Before, Passed, Preceded};
 
 use crate::LIMIT;
 use refusal::Refusal;
@@ -13,6 +13,13 @@ pub fn past(index: u64, count: u64) -> Result<u64, Refusal>
         .checked_add(count)
         .filter(|end| *end <= LIMIT)
         .ok_or(Refusal::PastLast)
+}
+
+// The index `count` places before another, if there are as many.
+pub fn before(index: u64, count: u64) -> Result<u64, Refusal>
+    ensures { Preceded index count result }
+{
+    index.checked_sub(count).ok_or(Refusal::BeforeFirst)
 }
 
 // A place in a list of 2^34 words: the index of the word to come, or 2^34 past the last.
@@ -53,20 +60,15 @@ impl Place {
     pub fn after(self) -> Result<Place, Refusal>
         ensures { After self result }
     {
-        Ok(Place {
-            index: past(self.index, 1)?,
-        })
+        self.past(1)
     }
 
     // The place before the word passed last, if there is one.
     pub fn before(self) -> Result<Place, Refusal>
         ensures { Before self result }
     {
-        if self.index == 0 {
-            return Err(Refusal::BeforeFirst);
-        }
         Ok(Place {
-            index: self.index - 1,
+            index: before(self.index, 1)?,
         })
     }
 
