@@ -6,30 +6,33 @@ use Rattle.digits.specs.declared.fields.ListError.{ListError}
 use Rattle.digits.specs.declared.fields.ListError.TheVariants as list
 use Rattle.digits.specs.declared.line.LineError.{LineError}
 use Rattle.digits.specs.declared.line.LineError.TheVariants.{Malformed, NoMemory}
-use Rattle.digits.specs.Digits.{◌⟫◌, hex_of}
+use Rattle.digits.specs.Digits.{◌⟫◌}
 use Rattle.digits.specs.Cuts.{cut_of}
 
 -- the first field of a text, and what stands after the space that ends it
 abbrev pub field_of : List ℕ → Option (List ℕ × List ℕ)
 field_of = cut_of 32
 
--- KIND KEY IV, and all that is left of a line
+-- KIND KEY IV, the key and the IV as they are written, and all that is left of a line
 pub record Heading (K : Type 0) : Type 0 where
   pub kind : K
   pub key : List ℕ
   pub iv : List ℕ
   pub rest : List ℕ
 
--- what a line of at most 4096 bytes begins with: the name of a kind, as named reads it, and a key and an IV in hex
+-- what a line of at most 4096 bytes begins with: the name of a kind, as named reads it, a key and an IV
 abbrev pub head_of : {K : Type 0} → (List ℕ → Option K) → List ℕ → Option (Heading K)
 head_of named line =
     cond (nat_le (length line) 4096) (field_of line) None ⟫ λ a.
     field_of a.1 ⟫ λ b.
     field_of b.1 ⟫ λ c.
     named a.0 ⟫ λ kind.
-    hex_of b.0 ⟫ λ key.
-    hex_of c.0 ⟫ λ iv.
-    Some (record { kind = kind; key = key; iv = iv; rest = c.1 })
+    Some (record { kind = kind; key = b.0; iv = c.0; rest = c.1 })
+
+-- a part of a line is found, or the line is malformed
+abbrev pub Found : {P A : Type 0} → Option A → (P → A) → Result P LineError → Type 0
+Found part held (Ok p) = part ≡ Some (held p)
+Found part held (Err e) = (part ≡ None) × (e ≡ Malformed)
 
 -- a line is parsed exactly where it asks for something; want of memory says nothing of it
 abbrev pub Parses : {Q A : Type 0} → (List ℕ → Option A) → (Q → A) → List ℕ → Result Q LineError → Type 0

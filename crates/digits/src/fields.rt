@@ -29,6 +29,7 @@ pub enum ListError {
     NoMemory(AllocError),
 }
 
+// For `?` on a `Vec`. (Each error type has its own; a blanket one over them would be for a type of the library's.)
 impl<T: Drop> From<AllocFailed<T>> for ListError {
     ghost from_gives = { λ _ t. t ≡ NoMemory alloc_error };
 

@@ -37,6 +37,7 @@ pub enum HexError {
     NoMemory(AllocError),
 }
 
+// For `?` on a `Vec`. (Each error type has its own; a blanket one over them would be for a type of the library's.)
 impl<T: Drop> From<AllocFailed<T>> for HexError {
     ghost from_gives = { λ _ t. t ≡ NoMemory alloc_error };
 
@@ -69,7 +70,8 @@ pub fn hex(heap: Global, text: &[u8]) -> Result<Vec<u8>, HexError>
     Ok(out)
 }
 
-// A byte as two hex digits, the higher one first.
+// A byte as two hex digits, the higher one first. (Not the library's: reading takes lower case alone, and both go by
+// `Nibble`.)
 fn hex_pair(b: u8) -> [u8; 2]
     ensures { result ≡ spelled_byte b }
 {

@@ -1,14 +1,14 @@
 ghost use Rattle.std.specs.Prelude.{◌≡◌, ℕ, List, Option, IfOk};
 ghost use Rattle.digits.specs.Cuts.{both};
-ghost use Rattle.digits.specs.Lines.{Parses, field_of, head_of, malformed_by_hex, malformed_by_list};
+ghost use Rattle.digits.specs.Lines.{Found, field_of, head_of, malformed_by_hex, malformed_by_list};
 ghost use Rattle.digits.specs.Held.{headed};
 ghost use Rattle.digits.specs.Refusals.{refusal_text};
 ghost use Rattle.digits.specs.declared.line.LineError.TheVariants.{Malformed};
 ghost use Rattle.refusal.specs.declared.Refusal.TheVariants.{BadLine};
 
+use crate::HexError;
 use crate::fields::{ListError, cut};
 use crate::refusals::refusal_text;
-use crate::{HexError, hex};
 use refusal::Refusal;
 use std::alloc::{AllocError, Global};
 
@@ -61,33 +61,33 @@ impl From<ListError> for LineError {
 
 // The first field of a text, and what stands after the space that ends it.
 pub fn field(text: &[u8]) -> Result<(&[u8], &[u8]), LineError>
-    ensures { Parses field_of both text.now result }
+    ensures { Found (field_of text.now) both result }
 {
     cut(text, SPACE).ok_or(LineError::Malformed)
 }
 
 // A kind that lines ask for by its name. (With `TryFrom` the contract of `Head::parse` would speak of a relation between
 // texts and results; this is a function.)
-pub trait Named: Drop {
+pub trait Named: Copy {
     ghost named: { List ℕ → Option Self };
 
     fn named(name: &[u8]) -> Option<Self>
         ensures { result ≡ named name.now };
 }
 
-// What every line begins with, KIND KEY IV, and all that is left of it.
-#[derive(Drop)]
+// What every line begins with, KIND KEY IV, and all that is left of it; the key and the IV as they are written.
+#[derive(Clone, Copy)]
 pub struct Head<'a, K> {
     pub kind: K,
-    pub key: Vec<u8>,
-    pub iv: Vec<u8>,
+    pub key: &'a [u8],
+    pub iv: &'a [u8],
     pub rest: &'a [u8],
 }
 
 impl<'a, K: Named> Head<'a, K> {
     // The head of a line. A line of more than `LONGEST` bytes is malformed.
-    pub fn parse(heap: Global, line: &'a [u8]) -> Result<Self, LineError>
-        ensures { Parses (head_of K.named) headed line.now result }
+    pub fn parse(line: &'a [u8]) -> Result<Self, LineError>
+        ensures { Found (head_of K.named line.now) headed result }
     {
         if line.len() > LONGEST {
             return Err(LineError::Malformed);
@@ -95,10 +95,11 @@ impl<'a, K: Named> Head<'a, K> {
         let (name, rest) = field(line)?;
         let (key, rest) = field(rest)?;
         let (iv, rest) = field(rest)?;
+        let kind = K::named(name).ok_or(LineError::Malformed)?;
         Ok(Head {
-            kind: K::named(name).ok_or(LineError::Malformed)?,
-            key: hex(heap, key)?,
-            iv: hex(heap, iv)?,
+            kind,
+            key,
+            iv,
             rest,
         })
     }

@@ -1,7 +1,7 @@
 -- What a line asks for.
 use Rattle.std.specs.Prelude.{ℕ, cond, List, Some, None, codes, Option, nat_le}
 use Rattle.std.specs.Str.{bytes_eq}
-use Rattle.digits.specs.Digits.{◌⟫◌, decimal_of}
+use Rattle.digits.specs.Digits.{◌⟫◌, hex_of, decimal_of}
 use Rattle.digits.specs.Lines.{field_of, head_of}
 use Rattle.query.specs.declared.Kind.{Kind}
 use Rattle.query.specs.declared.Kind.TheVariants.{Wide}
@@ -31,6 +31,8 @@ abbrev pub query_of : List ℕ → Option Asked
 query_of line =
     head_of kind_of line ⟫ λ h.
     field_of h.rest ⟫ λ part.
+    hex_of h.key ⟫ λ key.
+    hex_of h.iv ⟫ λ iv.
     decimal_of part.0 ⟫ λ from.
     count_of part.1 ⟫ λ count.
-    Some (record { kind = h.kind; key = h.key; iv = h.iv; from = from; count = count })
+    Some (record { kind = h.kind; key = key; iv = iv; from = from; count = count })

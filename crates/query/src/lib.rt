@@ -8,7 +8,7 @@ ghost use Rattle.query.specs.Answers.{Streams, answer_of, printed_of};
 
 use digits::line::{Head, LineError, Named, field};
 use digits::refusals::refusal_text;
-use digits::{decimal, push_hex};
+use digits::{decimal, hex, push_hex};
 use refusal::Refusal;
 use std::alloc::{AllocError, Global};
 
@@ -24,6 +24,7 @@ pub enum Kind {
 impl Named for Kind {
     ghost named = { kind_of };
 
+    // (By `==`: with a `match` on the bytes of a name the proof did not close.)
     fn named(name: &[u8]) -> Option<Self> {
         if name == b"wide".as_slice() {
             Some(Kind::Wide)
@@ -33,7 +34,8 @@ impl Named for Kind {
     }
 }
 
-// What a line asks for: `count` keystream bytes from position `from` on.
+// What a line asks for: `count` keystream bytes from position `from` on. (What each line begins with is not one field
+// here, since each use names a part of it.)
 #[derive(Drop)]
 pub struct Query {
     pub kind: Kind,
@@ -48,26 +50,26 @@ fn counted(text: &[u8]) -> Option<usize>
     ensures { result ≡ count_of text.now }
 {
     let n = decimal(text)?;
-    if n > MOST { None } else { Some(n as usize) }
+    (n <= MOST).then_some(n as usize)
 }
 
 // What a line asks for.
 pub fn parse(heap: Global, line: &[u8]) -> Result<Query, LineError>
     ensures { Parses query_of asked line.now result }
 {
-    let head = Head::parse(heap, line)?;
+    let head = Head::parse(line)?;
     let (from, count) = field(head.rest)?;
     Ok(Query {
         kind: head.kind,
-        key: head.key,
-        iv: head.iv,
+        key: hex(heap, head.key)?,
+        iv: hex(heap, head.iv)?,
         from: decimal(from).ok_or(LineError::Malformed)?,
         count: counted(count).ok_or(LineError::Malformed)?,
     })
 }
 
-// Writes the keystream bytes that a query asks for over `out`. A kind picks a generator and a filter, with words of a
-// type of their own, which a `dyn` could not name; there is one today.
+// Writes the keystream bytes that a query asks for over `out`. (There is one kind today; the `match` is where another
+// would be picked.)
 fn stream(query: &Query, out: &mut [u8]) -> Result<(), Refusal>
     requires { length out.old ≡ query.now.count }
     ensures { Streams (asked query.now) result out.new }

@@ -1,7 +1,7 @@
 -- What a line asks for.
 use Rattle.std.specs.Prelude.{ℕ, cond, List, Some, None, codes, Option}
 use Rattle.std.specs.Str.{bytes_eq}
-use Rattle.digits.specs.Digits.{◌⟫◌}
+use Rattle.digits.specs.Digits.{◌⟫◌, hex_of}
 use Rattle.digits.specs.Cuts.{decimals_of}
 use Rattle.digits.specs.Lines.{head_of}
 use Rattle.walk_lines.specs.declared.request.Kind.{Kind}
@@ -25,5 +25,7 @@ kind_of name =
 abbrev pub request_of : List ℕ → Option Asked
 request_of line =
     head_of kind_of line ⟫ λ h.
+    hex_of h.key ⟫ λ key.
+    hex_of h.iv ⟫ λ iv.
     decimals_of 44 h.rest ⟫ λ places.
-    Some (record { kind = h.kind; key = h.key; iv = h.iv; places = places })
+    Some (record { kind = h.kind; key = key; iv = iv; places = places })

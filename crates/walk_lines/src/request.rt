@@ -3,6 +3,7 @@ ghost use Rattle.walk_lines.specs.Requests.{kind_of, request_of};
 ghost use Rattle.walk_lines.specs.Parsing.{asked};
 
 use digits::fields::decimals;
+use digits::hex;
 use digits::line::{Head, LineError, Named};
 use std::alloc::Global;
 
@@ -19,6 +20,7 @@ pub enum Kind {
 impl Named for Kind {
     ghost named = { kind_of };
 
+    // (By `==`: with a `match` on the bytes of a name the proof did not close.)
     fn named(name: &[u8]) -> Option<Self> {
         if name == b"booter".as_slice() {
             Some(Kind::Booter)
@@ -32,7 +34,8 @@ impl Named for Kind {
     }
 }
 
-// What a line asks for: the words at places, in their order.
+// What a line asks for: the words at places, in their order. (What each line begins with is not one field here, since
+// each use names a part of it.)
 #[derive(Drop)]
 pub struct Request {
     pub kind: Kind,
@@ -45,11 +48,11 @@ pub struct Request {
 pub fn parse(heap: Global, line: &[u8]) -> Result<Request, LineError>
     ensures { Parses request_of asked line.now result }
 {
-    let head = Head::parse(heap, line)?;
+    let head = Head::parse(line)?;
     Ok(Request {
         kind: head.kind,
-        key: head.key,
-        iv: head.iv,
+        key: hex(heap, head.key)?,
+        iv: hex(heap, head.iv)?,
         places: decimals(heap, head.rest, COMMA)?,
     })
 }
