@@ -20,6 +20,11 @@ WalkedOn key iv k = Walked (λ y. y ≡ memory wide (wide_words key iv) k) key i
 abbrev pub WalkedThereAndBack : List ℕ → List ℕ → ℕ → Result Row Refusal → Type 0
 WalkedThereAndBack key iv k = Walked (λ y. y ≡ (wide_words key iv).start) key iv k
 
+-- the bytes of the memory that a walk came to, or its refusal and the buffer as it was
+abbrev pub Written : (Result Row Refusal → Type 0) → List ℕ → Result (Unit {0}) Refusal → List ℕ → Type 0
+Written P old (Ok _) new = (y : Row) × P (Ok y) × (new ≡ row_bytes y)
+Written P old (Err e) new = P (Err e) × (new ≡ old)
+
 -- 0 and the bytes of a memory, or the number of a refusal and the buffer as it was
 abbrev pub Told : Result Row Refusal → List ℕ → ℕ → List ℕ → Type 0
 Told (Ok y) old r new = (r ≡ 0) × (new ≡ row_bytes y)

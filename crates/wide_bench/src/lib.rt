@@ -44,10 +44,17 @@ fn cover_pieces(key: &[u8], iv: &[u8], bytes: &mut [u8], piece: usize) -> Result
     in_pieces(&mut cover, bytes, piece)
 }
 
-// The same for C: it answers 0, or the number of the refusal.
+// 0, or the number of a refusal: C has no `Result`.
+fn number_of(done: Result<(), Refusal>) -> u8
+    ensures { result ≡ number_of done }
+{
+    done.map_or_else(Refusal::number, |()| 0)
+}
+
+// The same for C.
 #[unsafe(no_mangle)]
 pub extern "C" fn wide_cover_pieces(key: &[u8], iv: &[u8], bytes: &mut [u8], piece: usize) -> u8
     ensures { CoversWide key.now iv.now bytes.old result bytes.new }
 {
-    cover_pieces(key, iv, bytes, piece).map_or_else(Refusal::number, |()| 0)
+    number_of(cover_pieces(key, iv, bytes, piece))
 }

@@ -1,6 +1,7 @@
-ghost use Rattle.std.specs.Prelude.{◌≡◌};
-ghost use Rattle.wide_bench.specs.Walks.{WalkedOn, WalkedThereAndBack, Answers};
+ghost use Rattle.std.specs.Prelude.{◌≡◌, length};
+ghost use Rattle.wide_bench.specs.Walks.{WalkedOn, WalkedThereAndBack, Written, Answers};
 
+use crate::number_of;
 use booter::Booter;
 use cryptmt::WidePile;
 use handover::Handover;
@@ -10,11 +11,12 @@ use row::Row;
 
 const MEMORY_BYTES: usize = 16;
 
-// What the walks answer where the buffer for the memory has another length. They are called from C, which
-// has no `Result`: 0, this, or the number of a refusal.
+// What the walks answer where the buffer for the memory has another length. They are called from C, which has no
+// `Result`: 0, this, or the number of a refusal.
 const OTHER_LENGTH: u8 = 255;
 
-// The memory after `words` words.
+// The memory after `words` words. (The next function begins by the same three lines, a new pile and two calls of `follow`:
+// what a function for them would promise stands there.)
 fn walked_on(key: &[u8], iv: &[u8], words: u64) -> Result<Row, Refusal>
     ensures { WalkedOn key.now iv.now words result }
 {
@@ -33,7 +35,17 @@ fn walked_there_and_back(key: &[u8], iv: &[u8], words: u64) -> Result<Row, Refus
     follow::back::<WidePile, Wide>(&mut pile, far, words)
 }
 
-// Walks, and writes the memory come to over `memory`. It answers 0 or the number of a refusal.
+// Walks, and writes the memory come to over `memory`.
+fn write<W: FnOnce() -> Result<Row, Refusal>>(walk: W, memory: &mut [u8]) -> Result<(), Refusal>
+    requires { W.pre walk × (length memory.old ≡ 16) }
+    ensures { Written (W.post walk) memory.old result memory.new }
+{
+    let row = walk()?;
+    memory.copy_from_slice(&row.to_bytes());
+    Ok(())
+}
+
+// The same for C, whatever the buffer.
 fn tell<W: FnOnce() -> Result<Row, Refusal>>(walk: W, memory: &mut [u8]) -> u8
     requires { W.pre walk }
     ensures { Answers (W.post walk) memory.old result memory.new }
@@ -41,13 +53,7 @@ fn tell<W: FnOnce() -> Result<Row, Refusal>>(walk: W, memory: &mut [u8]) -> u8
     if memory.len() != MEMORY_BYTES {
         return OTHER_LENGTH;
     }
-    match walk() {
-        Ok(row) => {
-            memory.copy_from_slice(&row.to_bytes());
-            0
-        }
-        Err(e) => e.number(),
-    }
+    number_of(write(walk, memory))
 }
 
 // Sets up, takes in `words` words, and writes the memory then over `memory`.
