@@ -12,7 +12,11 @@ use refusal::Refusal;
 // How many blocks a group has, each of two words.
 const GROUP: usize = 4;
 
-const GROUP_WORDS: usize = 8;
+const GROUP_WORDS: usize = 2 * GROUP;
+
+// Here a generator and a memory stand side by side throughout: the one is the cover's, the other its stage's. That a part
+// of a buffer is whole blocks, or not empty, is handed down from one function to the next: a type for such a part would
+// be made at each cut and taken apart behind it.
 
 // The next block, in the first bytes of an array, and the last memory of it.
 fn block_from<M: Mother, F: Filter<Word = M::Word>>(
@@ -53,8 +57,9 @@ fn cover_block<M: Mother, F: Filter<Word = M::Word>>(
 }
 
 // Covers a group of whole blocks with the words that come after the memory, and answers the memory
-// after them. A group is short, so that the next words are made while this memory is waited for. The words are lent as
-// a slice, as `fill` takes them: it says that their number stays, which an array would not spare it.
+// after them. A group is short, so that the next words are made while this memory is waited for. Here and below a part
+// of the buffer is taken by index (of `chunks_mut` and of `zip` over `iter_mut` a loop knows only how many there are), and
+// words are lent as a slice (an array of a type parameter's words comes back from `fill` with its length unknown).
 fn cover_group<F: Filter>(memory: F::Memory, words: &[F::Word], bytes: &mut [u8]) -> F::Memory
     requires { (length words.now ≡ 8) × (length bytes.old ≡ 4 * F.Filter.SIZE) }
     ensures { GroupCovered F.Filter memory words.now bytes.old result bytes.new }
@@ -71,8 +76,7 @@ fn cover_group<F: Filter>(memory: F::Memory, words: &[F::Word], bytes: &mut [u8]
     first
 }
 
-// Covers groups of blocks; `words` is room for the words of a group. Here and below a part of the buffer is taken by
-// index: of `chunks_mut` and of `zip` over `iter_mut` a loop knows only how many there are.
+// Covers groups of blocks; `words` is room for the words of a group.
 fn cover_groups<M: Mother, F: Filter<Word = M::Word>>(
     mother: &mut M,
     memory: &mut F::Memory,
@@ -174,7 +178,7 @@ fn first_memory<M: Mother, F: Filter<Word = M::Word>>(
     }
 }
 
-// The same from the memory that is kept.
+// Covers some bytes as `cover_from` does, from the memory that is kept.
 pub fn cover_blocks<M: Mother, F: Filter<Word = M::Word>>(
     mother: &mut M,
     kept: &mut Kept<F::Memory>,

@@ -21,7 +21,7 @@ impl Model for Rest {
     ghost invariant = { λ r. (r.from ≤ r.to) × (r.to ≤ 16) };
 }
 
-// XORs each byte with the key beside it.
+// XORs each byte with the key beside it. (By index: of a `zip` over `iter_mut` a loop knows only how many.)
 pub fn xor(bytes: &mut [u8], keys: &[u8])
     requires { length bytes.old ≤ length keys.now }
     ensures { bytes.new ≡ xored bytes.old keys.now }

@@ -2,7 +2,8 @@ use refusal::Refusal;
 use std::alloc::{AllocError, AllocFailed};
 use std::io;
 
-// Why the demo stops before its end.
+// Why the demo stops before its end. (The conversions are written out: for `thiserror`, `Refusal` would have to be an
+// `Error`.)
 #[derive(Debug, Drop)]
 pub enum Fault {
     Refused(Refusal),

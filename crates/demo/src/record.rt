@@ -10,8 +10,8 @@ pub const BEFORE: usize = 37;
 
 pub const FILLER: usize = 1183;
 
-// A trace with filler inside it, which takes the rest of it past the byte where the generator is
-// handed over, and how many of its bytes have gone through a cover.
+// A trace with filler inside it, so that the rest of it goes over the byte where the generator is handed over, and how
+// many of its bytes have gone through a cover.
 #[derive(Drop)]
 pub struct Record {
     bytes: Vec<u8>,

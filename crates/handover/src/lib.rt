@@ -10,13 +10,13 @@ use mother::Mother;
 use mother::place::Place;
 use mother::two_way::TwoWay;
 use refusal::Refusal;
-use ring::Ring;
+use ring::{ROWS, Ring};
 use row::Row;
 
 mod ring;
 
 // How many words of the list are those of the generator below.
-const PASSED_ON: u64 = 156;
+const PASSED_ON: u64 = ROWS as u64;
 
 // The hand-over: the first words are those of the generator below, which are recorded, and the
 // rest are made by the recursion from these. It goes back if the one below does.
@@ -73,8 +73,8 @@ impl<M: Mother<Word = Row>> Mother for Handover<M> {
         Ok(word)
     }
 
-    // The words of the generator below come one by one, those of the recursion all at once. (A method that
-    // is written anew can't call the trait's own body, so the loop stands here too.)
+    // The words of the generator below come one by one, those of the recursion all at once. (A method that is written
+    // anew can't call the trait's own body, and what both could call would be a function for a loop of one line.)
     fn fill(&mut self, words: &mut [Row]) -> Result<(), Refusal> {
         let past = self.at.past(words.len() as u64)?;
         if self.at.index() < PASSED_ON {

@@ -5,7 +5,7 @@ use row::Row;
 mod turns;
 
 // The recursion goes back by 156 rows.
-const ROWS: usize = 156;
+pub(crate) const ROWS: usize = 156;
 
 // The last 156 rows x_j of the recursion; the oldest is at `head`.
 #[derive(Clone, Copy)]

@@ -31,8 +31,8 @@ pub trait Filter {
     fn step(y: Self::Memory, x: Self::Word) -> Self::Memory
         ensures { result ≡ step y x };
 
-    // The block of two memories, one after the other, in the first bytes of the answer: an array of `SIZE`
-    // bytes would need a computed length.
+    // The block of two memories, one after the other, in the first bytes of the answer: an array of `SIZE` bytes would
+    // need a computed length, and a type of the filter's own a trait for its bytes.
     fn block(y: Self::Memory, z: Self::Memory) -> [u8; 16]
         ensures { take SIZE result ≡ bytes y z };
 

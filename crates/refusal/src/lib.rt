@@ -43,7 +43,7 @@ pub enum Refusal {
 }
 
 impl Refusal {
-    // The number that users see.
+    // The number that users see. A method, which says at its call what the `u8` is; C is given it.
     pub fn number(self) -> u8
         ensures { result ≡ numbered self }
     {

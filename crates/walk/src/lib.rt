@@ -27,6 +27,7 @@ impl From<Refusal> for WalkError {
     }
 }
 
+// For `?` on a `Vec`. (Each error type has its own; a blanket one over them would be for a type of the library's.)
 impl<T: Drop> From<AllocFailed<T>> for WalkError {
     ghost from_gives = { λ _ t. t ≡ NoMemory alloc_error };
 

@@ -78,7 +78,7 @@ fn told<W: Printed>(heap: Global, walk: Result<Vec<W>, WalkError>) -> Result<Vec
     }
 }
 
-// Each kind is a generator of another type with words of another type, which a `dyn` could not name.
+// Each kind is a generator of another type, which the `match` makes.
 fn answer_to(heap: Global, request: &Request) -> Result<Vec<u8>, AllocError> {
     let booter = Booter::new();
     match request.kind {

@@ -17,7 +17,7 @@ const CONSTANT: Row = Row {
 // The idle steps, which give no word, are one for each row of the register and two more.
 const IDLE_MORE: usize = 2;
 
-// The rows of the IV, the key, the IV and the key.
+// The rows of the IV, the key, the IV and the key. (By index: of a `zip` over `iter_mut` a loop knows only how many.)
 fn rows_given(key: &Rows, iv: &Rows) -> [Row; MOST_ROWS]
     ensures { result ≡ rows_given key.now iv.now }
 {
@@ -43,8 +43,8 @@ impl Register {
         }
     }
 
-    // The register before step 0. The accumulator begins with the first copy of the key's first row,
-    // since the constant is added to the second copy where the key has one row.
+    // The register before step 0. The accumulator begins with the first copy of the key's first row, its lowest bits
+    // set, since the constant is added to the second copy where the key has one row.
     pub(crate) fn load(key: &Rows, iv: &Rows) -> Register
         ensures { Loaded key.now iv.now result }
     {

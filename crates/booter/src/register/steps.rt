@@ -8,8 +8,8 @@ use row::Row;
 use row::ring::wrapped;
 
 impl Register {
-    // The row `k` after the oldest. (The recursion's ring has this line too, over an array of another length; the
-    // index, which is the part to get wrong, is `wrapped` in both.)
+    // The row `k` after the oldest. (The recursion's ring has this line too, and those by which a row is put on and taken
+    // back; the index, which is the part to get wrong, is `wrapped` in both.)
     fn at(&self, k: usize) -> Row
         requires { k < self.now.height }
         ensures { result ≡ kth_of self.now k }
@@ -24,20 +24,21 @@ impl Register {
         self.at(self.height - 1)
     }
 
-    // The output of the next step, and the accumulator after it.
+    // The output of the next step.
     fn output(&self) -> Row
         ensures { result ≡ output_of self.now }
     {
         self.at(0).wrapping_add(self.at(self.height - 2))
     }
 
+    // The accumulator after it.
     fn turned(&self) -> Row
         ensures { result ≡ turned_of self.now }
     {
         self.accumulator.odd_product(self.newest().perm_shift2())
     }
 
-    // The output of the last step, the accumulator before it and the row that it went over.
+    // The output of the last step.
     fn output_before(&self) -> Row
         ensures { result ≡ output_before_of self.now }
     {
@@ -46,6 +47,7 @@ impl Register {
             .undo_perm_shift1()
     }
 
+    // The accumulator before it.
     fn turned_before(&self) -> Row
         ensures { result ≡ turned_before_of self.now }
     {
@@ -53,6 +55,7 @@ impl Register {
             .odd_quotient(self.at(self.height - 2).perm_shift2())
     }
 
+    // The row that it went over.
     fn oldest_before(&self, output: Row) -> Row
         ensures { result ≡ oldest_before_of self.now output }
     {

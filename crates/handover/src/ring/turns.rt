@@ -23,7 +23,7 @@ const OLDEST: usize = 0;
 
 const MIDDLE: usize = 108;
 
-const NEWEST: usize = 155;
+const NEWEST: usize = ROWS - 1;
 
 fn marked(word: Row) -> Row
     ensures { result ≡ marked_row word }
@@ -46,8 +46,9 @@ impl Ring {
         }
     }
 
-    // The row `k` after the oldest. (The booter's register has this line too, over an array of another length.) Each
-    // `k` is a constant: a type for it would guard nothing.
+    // The row `k` after the oldest. (The booter's register has this line, and the two by which a row is put on and those
+    // by which one is taken back. One for both would take rows, head, height and row, and be as long.) Each `k` is a
+    // constant: a type for it would guard nothing.
     fn at(&self, k: usize) -> Row
         requires { k < 156 }
         ensures { result ≡ kth_of self.now k }
@@ -129,7 +130,7 @@ impl Ring {
         }
     }
 
-    // Undoes `record`.
+    // Undoes `record`, for an `n` as there.
     pub(crate) fn forget(&mut self, n: usize)
         requires { n < 156 }
         ensures { Forgot self.old n self.new }
