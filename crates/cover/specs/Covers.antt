@@ -16,6 +16,10 @@ module _ {M F W Y : Type 0} (m : Generator M W) (f : Ghosts F W Y) where
   abbrev pub Empty : Cover M F W Y → Type 0
   Empty c = c.stage ≡ None
 
+  -- its generator is s
+  abbrev pub Over : Cover M F W Y → M → Type 0
+  Over c s = c.mother ≡ s
+
   abbrev pub Staged : M → Option (Stage Y) → Words W → ℕ → Type 0
   Staged s None ws p = ⊥
   Staged s (Some st) ws p = At m f s st ws p

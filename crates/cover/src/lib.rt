@@ -1,8 +1,7 @@
 #![tactic(auto)]
 
-ghost use Rattle.std.specs.Prelude.{◌≡◌};
 ghost use Rattle.mother.specs.Means.{means};
-ghost use Rattle.cover.specs.Covers.{Empty, SetsUp, Covers};
+ghost use Rattle.cover.specs.Covers.{Empty, Over, SetsUp, Covers};
 
 use blocks::cover_all;
 use keystream::Filter;
@@ -33,7 +32,7 @@ impl<M: Mother, F: Filter<Word = M::Word>> Cover<M, F> {
     // Over a generator, with no set-up yet.
     pub fn new(mother: M) -> Self
         ensures empty { Empty (means M.Mother) F.Filter result }
-        ensures mother { result.mother ≡ mother }
+        ensures mother { Over (means M.Mother) F.Filter result mother }
     {
         Cover {
             mother,
