@@ -1,5 +1,5 @@
 -- Blocks, one after another.
-use Rattle.std.proofs.Common.{◌≡◌, ℕ, zero, suc, ◌+◌, ◌-◌, ◌*◌, ◌^◌, ◌%◌, ◌<◌, ◌≤◌, List, Ok, Err, Result, ◌++◌, length, get_or, take, drop, sym, ap, ◌∙◌, append-nil, add-one, mul-le-mul_left, mul-one, subst, length-append, length-drop, arith}
+use Rattle.std.proofs.Common.{◌≡◌, ℕ, zero, suc, ◌+◌, ◌-◌, ◌*◌, ◌^◌, ◌%◌, ◌<◌, ◌≤◌, List, [], Ok, Err, Result, ◌++◌, length, get_or, take, drop, sym, ap, ◌∙◌, append-nil, add-one, mul-le-mul_left, mul-one, subst, length-append, length-drop, arith}
 use lib.Arith.{digits_div, digits_mod}
 use Rattle.std.proofs.lemmas.List.{ext_get_or, take_all, drop_all, drop-take, take_at, drop_at, take-append-drop, length-take-le}
 use Rattle.refusal.specs.declared.Refusal.{Refusal}
@@ -11,7 +11,7 @@ use Rattle.follow.specs.Follows.{Follows}
 use Rattle.cover.specs.declared.stage.Kept.{Kept}
 use Rattle.cover.specs.declared.stage.Kept.TheVariants.{Last}
 use Rattle.cover.specs.Blocks.{AtBlock, Between, BlocksCovered, Ends}
-use Rattle.cover.proofs.Bytes.{xored_take, xored_streamed, length_streamed, drop-streamed, covered-append, length_covered}
+use Rattle.cover.proofs.Bytes.{xored_take, xored_streamed, length_streamed, drop-streamed, covered-append, length_covered, none_streamed, none_covered}
 
 get_or-streamed : (K : ℕ → ℕ) (p n i : ℕ) → i < n → get_or (streamed K p n) i 0 ≡ K (p + i)
 get_or-streamed K p zero i h = absurd (omega arith)
@@ -76,23 +76,37 @@ module _ {F W Y : Type 0} (f : Ghosts F W Y) (whole : (y z : Y) → length (f.by
       ∙ ap (drop c) (e ∙ block_streamed i)
       ∙ drop-streamed K (i * f.SIZE) f.SIZE c
 
-  module _ {M : Type 0} (m : Generator M W) (s : M) (y : Y) where
-    -- after the first c bytes of block i
-    pub between_after : (i c : ℕ) (rest : List ℕ) → Follows m f s y ws (2 * i + 1) → 0 < c → c ≤ f.SIZE
-        → rest ≡ streamed K (i * f.SIZE + c) (f.SIZE - c) → Between m f s (Last y) rest ws (i * f.SIZE + c)
-    between_after i c rest at pos le e =
-        let long : length rest ≡ f.SIZE - c = ap length e ∙ length_streamed K (i * f.SIZE + c) (f.SIZE - c) in
-        let last : 2 * i + 1 ≡ 2 * (i + 1) - 1 = omega arith in
-        record {
-          made = i + 1;
-          sum = omega (arith, long, more i f.SIZE);
-          few = omega (arith, long);
-          follows = (omega arith, subst (Follows m f s y ws) last at);
-          unused = e ∙ ap (streamed K (i * f.SIZE + c)) (sym long);
-        }
-      where
-        more : (i n : ℕ) → (i + 1) * n ≡ i * n + n
-        more i n = omega arith
+-- where a cover stands that keeps the last memory of a block
+module _ {M F W Y : Type 0} (m : Generator M W) (f : Ghosts F W Y) (s : M) (y : Y) (ws : Words W) where
+  -- after the first c bytes of block i, at position p
+  pub between_after : (i c p : ℕ) (rest : List ℕ) → AtBlock m f s y ws (i + 1) → p ≡ i * f.SIZE + c → 0 < c → c ≤ f.SIZE
+      → rest ≡ streamed (byte_at f ws) p (f.SIZE - c) → Between m f s (Last y) rest ws p
+  between_after i c p rest at here pos le e =
+      let K = byte_at f ws in
+      let long : length rest ≡ f.SIZE - c = ap length e ∙ length_streamed K p (f.SIZE - c) in
+      record {
+        made = i + 1;
+        sum = omega (arith, long, here, more i f.SIZE);
+        few = omega (arith, long);
+        follows = at;
+        unused = e ∙ ap (streamed K p) (sym long);
+      }
+    where
+      more : (i n : ℕ) → (i + 1) * n ≡ i * n + n
+      more i n = omega arith
+
+  -- where block i comes next, and nothing is left of the one before
+  pub between_blocks : (i p : ℕ) (rest : List ℕ) → 1 ≤ f.SIZE → AtBlock m f s y ws i → p ≡ i * f.SIZE → rest ≡ []
+      → Between m f s (Last y) rest ws p
+  between_blocks i p rest some at here e =
+      let none : length rest ≡ 0 = ap length e in
+      record {
+        made = i;
+        sum = omega (arith, none, here);
+        few = omega (arith, none);
+        follows = at;
+        unused = none_streamed (byte_at f ws) p rest none;
+      }
 
 -- the words of a block are there
 pub few_blocks : (i n : ℕ) → 1 ≤ n → i * n ≤ 2 ^ 32 → 2 * (i + 1) ≤ limit
@@ -102,24 +116,28 @@ few_blocks i n h le = let k : i * 1 ≤ i * n = mul-le-mul_left i h in omega (ar
 module _ {M F W Y : Type 0} (m : Generator M W) (f : Ghosts F W Y) where
   pub group_words : (s s' : M) (y : Y) (ws : Words W) (i : ℕ) (before words : List W) → AtBlock m f s y ws i → length before ≡ 8 → length words ≡ 8
       → Fills m s before (Ok tt) s' words
-      → Reads ws.word (2 * i) words × ((y' : Y) → y' ≡ memory f ws (2 * (i + 4)) → AtBlock m f s' y' ws (i + 4)) × (m.given s' ≡ m.given s)
+      → Reads ws.word (2 * i - 1) words × ((y' : Y) → y' ≡ memory f ws (2 * (i + 4) - 1) → AtBlock m f s' y' ws (i + 4)) × (m.given s' ≡ m.given s)
   group_words s s' y ws i before words at eight₀ eight fills =
-      let moved = fills at.sound in
-      let to : 2 * i + 8 ≡ 2 * (i + 4) = omega arith in (
-        λ k d lt. moved.2 k d lt ∙ ap (λ w. w (m.place s + k)) at.word ∙ ap (λ p. ws.word (p + k)) at.place,
-        λ y' e.
-            record {
-              sound = moved.0;
-              word = moved.3.word ∙ at.word;
-              place = moved.3.place ∙ ap (λ p. p + length before) at.place ∙ ap (λ n. 2 * i + n) eight₀ ∙ to;
-              memory = e;
-            },
+      let after = at.1 in
+      let moved = fills after.sound in
+      let to : 2 * i - 1 + 8 ≡ 2 * (i + 4) - 1 = omega (arith, at.0) in (
+        λ k d lt. moved.2 k d lt ∙ ap (λ w. w (m.place s + k)) after.word ∙ ap (λ p. ws.word (p + k)) after.place,
+        λ y' e. (
+          omega arith,
+          record {
+            sound = moved.0;
+            word = moved.3.word ∙ after.word;
+            place = moved.3.place ∙ ap (λ p. p + length before) after.place ∙ ap (λ n. 2 * i - 1 + n) eight₀ ∙ to;
+            memory = e;
+          },
+        ),
         moved.3.given,
       )
 
   pub group_granted : (s s' : M) (y : Y) (ws : Words W) (i : ℕ) (before words : List W) (e : Refusal) → AtBlock m f s y ws i → length before ≡ 8
       → 2 * (i + 4) ≤ limit → Fills m s before (Err e) s' words → ⊥
-  group_granted s s' y ws i before words e at eight low fills = let moved = fills at.sound in omega (arith, moved.1, at.place)
+  group_granted s s' y ws i before words e at eight low fills =
+      let after = at.1 in let moved = fills after.sound in omega (arith, moved.1, after.place, at.0)
 
 -- one part of a buffer after another
 module _ {M F W Y : Type 0} (m : Generator M W) (f : Ghosts F W Y) (some : 1 ≤ f.SIZE) where
@@ -173,6 +191,47 @@ module _ {M F W Y : Type 0} (m : Generator M W) (f : Ghosts F W Y) (some : 1 ≤
         part_join (byte_at f ws) (i * f.SIZE) ((i + n) * f.SIZE) old a b a' b' whole here one.0 two.0,
         subst (Between m f s'' (Last y'') rest ws) end two.1,
         two.2 ∙ one.2,
+      )
+
+  -- whole blocks and no more
+  pub ends_alone : (s s' : M) (y y' : Y) (old a b a' rest : List ℕ) (n : ℕ) → old ≡ a ++ b → length a ≡ n * f.SIZE → length b ≡ 0 → rest ≡ []
+      → BlocksCovered m f n s y a (Ok tt) s' y' a' → Ends m f s y old (Ok rest) s' y' (a' ++ b)
+  ends_alone s s' y y' old a b a' rest n whole long none left first ws i at low =
+      let long' : length old ≡ length a + length b = ap length whole ∙ length-append a b in
+      let here : (i + n) * f.SIZE ≡ i * f.SIZE + length a = omega (arith, spread i n f.SIZE) in
+      let end : i * f.SIZE + length old ≡ (i + n) * f.SIZE = omega arith in
+      let one = first ws i at (low_blocks i n (omega arith)) in (
+        part_join (byte_at f ws) (i * f.SIZE) ((i + n) * f.SIZE) old a b a' b whole here one.0 (none_covered (byte_at f ws) ((i + n) * f.SIZE) b none),
+        between_blocks m f s' y' ws (i + n) (i * f.SIZE + length old) rest some one.1 end left,
+        one.2,
+      )
+
+  -- the first block of all, or a part of it, and no more
+  pub starts_alone : (s : M) (y : Y) (ws : Words W) (old a b a' rest : List ℕ) → old ≡ a ++ b → length b ≡ 0 → 0 < length old → length a ≤ f.SIZE
+      → a' ≡ covered (byte_at f ws) 0 a → AtBlock m f s y ws 1 → rest ≡ streamed (byte_at f ws) (length a) (f.SIZE - length a)
+      → (a' ++ b ≡ covered (byte_at f ws) 0 old) × Between m f s (Last y) rest ws (length old)
+  starts_alone s y ws old a b a' rest whole none some' few first at left =
+      let long : length old ≡ length a + length b = ap length whole ∙ length-append a b in
+      let all : length a ≡ length old = omega arith in
+      let here : length old ≡ 0 * f.SIZE + length a = omega arith in
+      let start : length a ≡ 0 + length a = omega arith in (
+        part_join (byte_at f ws) 0 (length a) old a b a' b whole start first (none_covered (byte_at f ws) (length a) b none),
+        between_after m f s y ws 0 (length a) (length old) rest at here (omega arith) few
+            (left ∙ ap (λ p. streamed (byte_at f ws) p (f.SIZE - length a)) all),
+      )
+
+  -- the first block of all, and what comes after it
+  pub starts_join : (s s' : M) (y y' : Y) (ws : Words W) (old a b a' b' rest : List ℕ) → old ≡ a ++ b → length a ≡ f.SIZE → length old ≤ 2 ^ 32
+      → a' ≡ covered (byte_at f ws) 0 a → AtBlock m f s y ws 1 → Ends m f s y b (Ok rest) s' y' b'
+      → (a' ++ b' ≡ covered (byte_at f ws) 0 old) × Between m f s' (Last y') rest ws (length old) × (m.given s' ≡ m.given s)
+  starts_join s s' y y' ws old a b a' b' rest whole one low first at second =
+      let long : length old ≡ length a + length b = ap length whole ∙ length-append a b in
+      let start : 1 * f.SIZE ≡ 0 + length a = omega arith in
+      let end : 1 * f.SIZE + length b ≡ length old = omega arith in
+      let next = second ws 1 at (omega arith) in (
+        part_join (byte_at f ws) 0 (1 * f.SIZE) old a b a' b' whole start first next.0,
+        subst (Between m f s' (Last y') rest ws) end next.1,
+        next.2,
       )
 
 -- the rest of a block, used

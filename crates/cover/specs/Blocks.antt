@@ -15,25 +15,34 @@ use Rattle.cover.specs.Lists.{covered, streamed}
 abbrev pub IsWhole : ℕ → List ℕ → Type 0
 IsWhole n bytes = length bytes / n * n ≡ length bytes
 
--- block i and the three after it, with their words: y is the first memory of block i, and y' that of the block after them
+-- block i and the three after it, with the words after the block before: y is the last memory of that, and y' that of the
+-- last of the four
 abbrev pub GroupCovered : {F W Y : Type 0} → Ghosts F W Y → Y → List W → List ℕ → Y → List ℕ → Type 0
 GroupCovered {W = W} f y words old y' new =
-    (ws : Words W) (i : ℕ) → y ≡ memory f ws (2 * i) → Reads ws.word (2 * i) words
-    → (y' ≡ memory f ws (2 * (i + 4))) × (new ≡ covered (byte_at f ws) (i * f.SIZE) old)
+    (ws : Words W) (i : ℕ) → 1 ≤ i → y ≡ memory f ws (2 * i - 1) → Reads ws.word (2 * i - 1) words
+    → (y' ≡ memory f ws (2 * (i + 4) - 1)) × (new ≡ covered (byte_at f ws) (i * f.SIZE) old)
+
+-- some of the first bytes of block i cover a buffer, and the rest of them is left
+abbrev pub PartCovered : {F W Y : Type 0} → Ghosts F W Y → List ℕ → List ℕ → List ℕ → List ℕ → Type 0
+PartCovered {W = W} f block old rest new =
+    (ws : Words W) (i : ℕ) → take f.SIZE block ≡ block_bytes f ws i
+    → (new ≡ covered (byte_at f ws) (i * f.SIZE) old)
+    × (rest ≡ streamed (byte_at f ws) (i * f.SIZE + length old) (f.SIZE - length old))
 
 module _ {M F W Y : Type 0} (m : Generator M W) (f : Ghosts F W Y) where
-  -- y is the first memory of block i, and the generator stands behind the words before it
+  -- block i comes next: y is the last memory of the block before it, and no word of block i was asked for
   abbrev pub AtBlock : M → Y → Words W → ℕ → Type 0
-  AtBlock s y ws i = Follows m f s y ws (2 * i)
+  AtBlock s y ws i = (1 ≤ i) × Follows m f s y ws (2 * i - 1)
 
-  -- block i as the first bytes of an array, and its last memory, with the words of the block and no more
+  -- block i, from its first memory, as the first bytes of an array, and its last memory, with the words of the block and no
+  -- more
   abbrev pub MadeLast : M → Y → Result (List ℕ × Y) Refusal → M → Type 0
   MadeLast s y r s' =
-      (ws : Words W) (i : ℕ) → AtBlock s y ws i → 2 * i + 1 ≤ limit
-      → MatchResult r (λ b. (take f.SIZE b.0 ≡ block_bytes f ws i) × Follows m f s' b.1 ws (2 * i + 1)
+      (ws : Words W) (i : ℕ) → Follows m f s y ws (2 * i) → 2 * i + 1 ≤ limit
+      → MatchResult r (λ b. (take f.SIZE b.0 ≡ block_bytes f ws i) × AtBlock s' b.1 ws (i + 1)
       × (m.given s' ≡ m.given s)) (λ _. ⊥)
 
-  -- the same, and the first memory of the block after it
+  -- block i from the last memory of the block before it
   abbrev pub Made : M → Y → Result (List ℕ) Refusal → M → Y → Type 0
   Made s y r s' y' =
       (ws : Words W) (i : ℕ) → AtBlock s y ws i → 2 * (i + 1) ≤ limit
@@ -50,13 +59,7 @@ module _ {M F W Y : Type 0} (m : Generator M W) (f : Ghosts F W Y) where
   -- after `made` blocks: these took the words before 2 * made - 1, and no more were asked for
   abbrev pub KeptAt : M → Kept Y → Words W → ℕ → Type 0
   KeptAt s (First y) ws made = (made ≡ 0) × Follows m f s y ws 0
-  KeptAt s (Last y) ws made = (1 ≤ made) × Follows m f s y ws (2 * made - 1)
-
-  -- the first memory of block i
-  abbrev pub Begins : M → Kept Y → Result Y Refusal → M → Type 0
-  Begins s kept r s' =
-      (ws : Words W) (i : ℕ) → KeptAt s kept ws i → 2 * i ≤ limit
-      → MatchResult r (λ y. AtBlock s' y ws i × (m.given s' ≡ m.given s)) (λ _. ⊥)
+  KeptAt s (Last y) ws made = AtBlock s y ws made
 
   -- at position p, after `made` blocks, with the bytes of the last that are not used yet
   pub record Between (s : M) (kept : Kept Y) (rest : List ℕ) (ws : Words W) (p : ℕ) : Type 0 where
@@ -66,7 +69,21 @@ module _ {M F W Y : Type 0} (m : Generator M W) (f : Ghosts F W Y) where
     pub follows : KeptAt s kept ws made
     pub unused : rest ≡ streamed (byte_at f ws) p (length rest)
 
-  -- all of a buffer is covered from the first byte of block i on: from the first memory of that block to the last of the
+  -- the first bytes of all are covered, up to a block: the rest of that block is left, and its last memory
+  abbrev pub FirstCovered : M → Y → List ℕ → Result (List ℕ × Y) Refusal → M → List ℕ → Type 0
+  FirstCovered s y old r s' new =
+      (ws : Words W) → Follows m f s y ws 0
+      → MatchResult r (λ b. (new ≡ covered (byte_at f ws) 0 old) × AtBlock s' b.1 ws 1
+      × (b.0 ≡ streamed (byte_at f ws) (length old) (f.SIZE - length old)) × (m.given s' ≡ m.given s)) (λ _. ⊥)
+
+  -- the same of any number of bytes
+  abbrev pub StartCovered : M → Y → List ℕ → Result (List ℕ × Y) Refusal → M → List ℕ → Type 0
+  StartCovered s y old r s' new =
+      (ws : Words W) → Follows m f s y ws 0 → length old ≤ 2 ^ 32
+      → MatchResult r (λ b. (new ≡ covered (byte_at f ws) 0 old) × Between s' (Last b.1) b.0 ws (length old)
+      × (m.given s' ≡ m.given s)) (λ _. ⊥)
+
+  -- all of a buffer is covered from the first byte of block i on: from the last memory of the block before to that of the
   -- last block, or from the memory that is kept
   abbrev pub Ends : M → Y → List ℕ → Result (List ℕ) Refusal → M → Y → List ℕ → Type 0
   Ends s y old r s' y' new =

@@ -1,7 +1,7 @@
 ghost use Rattle.std.specs.Prelude.{◌≡◌, ◌+◌, ◌*◌, ◌/◌, ◌^◌, ◌<◌, ◌≤◌, length};
 ghost use Rattle.mother.specs.Means.{means};
-ghost use Rattle.cover.specs.Blocks.{IsWhole, GroupCovered, MadeLast, Made, BlocksCovered};
-ghost use Rattle.cover.specs.Blocks.{Ends, Begins, EndsKept, Followed};
+ghost use Rattle.cover.specs.Blocks.{IsWhole, GroupCovered, PartCovered, MadeLast, Made, BlocksCovered};
+ghost use Rattle.cover.specs.Blocks.{Ends, FirstCovered, StartCovered, EndsKept, Followed};
 
 use crate::rest::{Rest, xor};
 use crate::stage::{Kept, Stage};
@@ -18,7 +18,7 @@ const GROUP_WORDS: usize = 2 * GROUP;
 // of a buffer is whole blocks, or not empty, is handed down from one function to the next: a type for such a part would
 // be made at each cut and taken apart behind it.
 
-// The next block, in the first bytes of an array, and the last memory of it.
+// A block from its first memory, in the first bytes of an array, and the last memory of it.
 fn block_from<M: Mother, F: Filter<Word = M::Word>>(
     mother: &mut M,
     memory: F::Memory,
@@ -29,15 +29,16 @@ fn block_from<M: Mother, F: Filter<Word = M::Word>>(
     Ok((F::block(memory, second), second))
 }
 
-// The next block, and the memory goes on to that of the block after it.
+// The next block, and the memory goes on from the last of the block before to the last of this one.
 fn next_block<M: Mother, F: Filter<Word = M::Word>>(
     mother: &mut M,
     memory: &mut F::Memory,
 ) -> Result<[u8; 16], Refusal>
     ensures { Made (means M.Mother) F.Filter mother.old memory.old result mother.new memory.new }
 {
-    let (block, last) = block_from::<M, F>(mother, *memory)?;
-    *memory = follow::step_on::<M, F>(mother, last)?;
+    let first = follow::step_on::<M, F>(mother, *memory)?;
+    let (block, last) = block_from::<M, F>(mother, first)?;
+    *memory = last;
     Ok(block)
 }
 
@@ -66,14 +67,15 @@ fn cover_group<F: Filter>(memory: F::Memory, words: &[F::Word], bytes: &mut [u8]
 {
     let size = F::SIZE;
     let (pairs, _) = words.as_chunks::<2>();
-    let mut first = memory;
+    let mut last = memory;
     for (i, [w, x]) in pairs.iter().enumerate() {
-        let second = F::step(first, *w);
+        let first = F::step(last, *w);
+        let second = F::step(first, *x);
         let block = F::block(first, second);
         xor(&mut bytes[i * size..(i + 1) * size], &block);
-        first = F::step(second, *x);
+        last = second;
     }
-    first
+    last
 }
 
 // Covers groups of blocks; `words` is room for the words of a group.
@@ -112,8 +114,16 @@ fn cover_singly<M: Mother, F: Filter<Word = M::Word>>(
     Ok(())
 }
 
-// Covers the last bytes, up to a block, and answers what is left of the block made for them. The memory goes on to the
-// last of that block.
+// Covers some bytes, up to a block, and answers what is left of the block.
+fn cover_part<F: Filter>(block: [u8; 16], bytes: &mut [u8]) -> Rest
+    requires { length bytes.old ≤ F.Filter.SIZE }
+    ensures { PartCovered F.Filter block bytes.old result bytes.new }
+{
+    xor(bytes, &block);
+    Rest::new(block, bytes.len(), F::SIZE)
+}
+
+// Covers the last bytes, up to a block, and answers what is left of the block made for them.
 fn cover_last<M: Mother, F: Filter<Word = M::Word>>(
     mother: &mut M,
     memory: &mut F::Memory,
@@ -123,10 +133,8 @@ fn cover_last<M: Mother, F: Filter<Word = M::Word>>(
     ensures { Ends (means M.Mother) F.Filter mother.old memory.old bytes.old
         result mother.new memory.new bytes.new }
 {
-    let (block, last) = block_from::<M, F>(mother, *memory)?;
-    *memory = last;
-    xor(bytes, &block);
-    Ok(Rest::new(block, bytes.len(), F::SIZE))
+    let block = next_block::<M, F>(mother, memory)?;
+    Ok(cover_part::<F>(block, bytes))
 }
 
 // Covers whole blocks, in groups as far as these go; a function of its own, since the room for a
@@ -155,30 +163,51 @@ fn cover_from<M: Mother, F: Filter<Word = M::Word>>(
     memory: &mut F::Memory,
     bytes: &mut [u8],
 ) -> Result<Rest, Refusal>
-    requires { 0 < length bytes.old }
     ensures { Ends (means M.Mother) F.Filter mother.old memory.old bytes.old
         result mother.new memory.new bytes.new }
 {
     let size = F::SIZE;
-    let (blocks, last) = bytes.split_at_mut((bytes.len() - 1) / size * size);
+    let (blocks, last) = bytes.split_at_mut(bytes.len() / size * size);
     cover_whole::<M, F>(mother, memory, blocks)?;
+    if last.is_empty() {
+        return Ok(Rest::none());
+    }
     cover_last::<M, F>(mother, memory, last)
 }
 
-// The memory that the next block begins with.
-fn first_memory<M: Mother, F: Filter<Word = M::Word>>(
+// Covers the first bytes of all, up to a block, from the first memory of all, and answers what is left of that block
+// and its last memory.
+fn cover_first<M: Mother, F: Filter<Word = M::Word>>(
     mother: &mut M,
-    kept: &Kept<F::Memory>,
-) -> Result<F::Memory, Refusal>
-    ensures { Begins (means M.Mother) F.Filter mother.old kept.now result mother.new }
+    memory: F::Memory,
+    bytes: &mut [u8],
+) -> Result<(Rest, F::Memory), Refusal>
+    requires { length bytes.old ≤ F.Filter.SIZE }
+    ensures { FirstCovered (means M.Mother) F.Filter mother.old memory bytes.old result mother.new bytes.new }
 {
-    match kept {
-        Kept::First(memory) => Ok(*memory),
-        Kept::Last(memory) => follow::step_on::<M, F>(mother, *memory),
-    }
+    let (block, last) = block_from::<M, F>(mother, memory)?;
+    Ok((cover_part::<F>(block, bytes), last))
 }
 
-// Covers some bytes as `cover_from` does, from the memory that is kept.
+// Covers some bytes from the first of all on, as `cover_first` and, beyond a block, `cover_from` do.
+fn cover_start<M: Mother, F: Filter<Word = M::Word>>(
+    mother: &mut M,
+    memory: F::Memory,
+    bytes: &mut [u8],
+) -> Result<(Rest, F::Memory), Refusal>
+    requires { 0 < length bytes.old }
+    ensures { StartCovered (means M.Mother) F.Filter mother.old memory bytes.old result mother.new bytes.new }
+{
+    let (head, tail) = bytes.split_at_mut(F::SIZE.min(bytes.len()));
+    let (rest, mut last) = cover_first::<M, F>(mother, memory, head)?;
+    if tail.is_empty() {
+        return Ok((rest, last));
+    }
+    let rest = cover_from::<M, F>(mother, &mut last, tail)?;
+    Ok((rest, last))
+}
+
+// Covers some bytes from the memory that is kept on, and keeps the last.
 pub fn cover_blocks<M: Mother, F: Filter<Word = M::Word>>(
     mother: &mut M,
     kept: &mut Kept<F::Memory>,
@@ -188,10 +217,19 @@ pub fn cover_blocks<M: Mother, F: Filter<Word = M::Word>>(
     ensures { EndsKept (means M.Mother) F.Filter mother.old kept.old bytes.old
         result mother.new kept.new bytes.new }
 {
-    let mut memory = first_memory::<M, F>(mother, kept)?;
-    let rest = cover_from::<M, F>(mother, &mut memory, bytes)?;
-    *kept = Kept::Last(memory);
-    Ok(rest)
+    match kept {
+        Kept::First(memory) => {
+            let (rest, last) = cover_start::<M, F>(mother, *memory, bytes)?;
+            *kept = Kept::Last(last);
+            Ok(rest)
+        }
+        Kept::Last(memory) => {
+            let mut last = *memory;
+            let rest = cover_from::<M, F>(mother, &mut last, bytes)?;
+            *kept = Kept::Last(last);
+            Ok(rest)
+        }
+    }
 }
 
 // Covers all of `bytes`: with the rest of the block made last, and then with new blocks.

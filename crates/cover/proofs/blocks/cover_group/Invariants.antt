@@ -1,4 +1,4 @@
-use Rattle.std.proofs.Common.{◌≡◌, ℕ, ◌+◌, ◌*◌, take, drop}
+use Rattle.std.proofs.Common.{◌≡◌, ℕ, ◌+◌, ◌-◌, ◌*◌, ◌≤◌, take, drop}
 use Rattle.mother.specs.Generators.{Words, Reads}
 use Rattle.keystream.specs.Keystreams.{memory, byte_at}
 use Rattle.cover.specs.Lists.{covered}
@@ -9,6 +9,6 @@ invariant-loop-i g l =
     let f = g.F.Filter in
     let old = l.initial.bytes in
     (drop (l.i * l.size) l.bytes ≡ drop (l.i * l.size) old)
-    × ((ws : Words g.row.F-Word.Denot) (k : ℕ) → l.initial.first ≡ memory f ws (2 * k) → Reads ws.word (2 * k) l.words
+    × ((ws : Words g.row.F-Word.Denot) (k : ℕ) → 1 ≤ k → l.initial.last ≡ memory f ws (2 * k - 1) → Reads ws.word (2 * k - 1) l.words
     → (take (l.i * l.size) l.bytes ≡ covered (byte_at f ws) (k * f.SIZE) (take (l.i * l.size) old))
-    × (l.first ≡ memory f ws (2 * (k + l.i))))
+    × (l.last ≡ memory f ws (2 * (k + l.i) - 1)))

@@ -41,7 +41,7 @@ loop-i-preserved g c =
           let eight : length c.loop-i.words ≡ 8 = c.loop-i.auto.words ∙ c.requires.0 in
           let e : k + 4 * i + 4 ≡ k + 4 * (i + 1) = omega arith in
           let words = group_words m f c.loop-i.mother c.fill.new.self c.loop-i.memory ws (k + 4 * i) c.loop-i.words c.fill.new.words here.1 eight (c.fill.auto.words ∙ eight) c.in_ok-fill.ensures in
-          let group = c.cover_group.ensures ws (k + 4 * i) here.1.memory words.0 in (
+          let group = c.cover_group.ensures ws (k + 4 * i) here.1.0 here.1.1.memory words.0 in (
             front_more at end old bs new c.loop-i.auto.bytes order within long c.loop-i.invariant.0 (byte_at f ws) (k * f.SIZE) ((k + 4 * i) * f.SIZE)
                 (later_group k i c.SIZE-size.result f.SIZE c.SIZE-size.ensures) here.0 group.1,
             subst (AtBlock m f c.fill.new.self c.cover_group.result ws) e (words.1 c.cover_group.result group.0),
