@@ -34,7 +34,11 @@ fn pass<M: Mother, F: Filter<Word = M::Word>>(
     for _ in 0..count / PIECE {
         pass_piece(cover, PIECE as usize)?;
     }
-    pass_piece(cover, (count % PIECE) as usize)
+    let rest = (count % PIECE) as usize;
+    if rest > 0 {
+        pass_piece(cover, rest)?;
+    }
+    Ok(())
 }
 
 // Writes the keystream bytes of a key and an IV, from position `from` on, over `out`.
