@@ -25,7 +25,7 @@ is_zeros r e = same_row e.1.1.1 e.1.1.0 e.1.0 e.0
 lanes_zeros : Lanes zeros
 lanes_zeros = record { l3 = lit< tt; l2 = lit< tt; l1 = lit< tt; l0 = lit< tt }
 
-sound_zeros : Sound 4 (state (replicate 64 zeros) 0 zeros)
+pub sound_zeros : Sound 4 (state (replicate 64 zeros) 0 zeros)
 sound_zeros =
     record {
       range = record { head = lit< tt; least = lit≤ tt; full = lit≤ tt };

@@ -53,12 +53,10 @@ impl Mother for Booter {
     fn set_up(&mut self, key: &[u8], iv: &[u8]) -> Result<Row, Refusal> {
         let key = Rows::of(key).ok_or(Refusal::KeyLength)?;
         let iv = Rows::of(iv).ok_or(Refusal::IvLength)?;
-        let mut register = Register::load(&key, &iv);
-        register.idle();
-        let start = register.newest();
-        self.register = register;
+        self.register = Register::load(&key, &iv);
+        self.register.idle();
         self.at = Place::front();
-        Ok(start)
+        Ok(self.register.newest())
     }
 
     fn next(&mut self) -> Result<Row, Refusal> {

@@ -1,4 +1,5 @@
-ghost use Rattle.std.specs.Prelude.{◌≡◌};
+ghost use Rattle.std.specs.Prelude.{◌≡◌, replicate};
+ghost use Rattle.row.specs.Rows.{zeros};
 ghost use Rattle.booter.specs.Loading.{rows_given};
 ghost use Rattle.booter.specs.Calls.{Sane, Loaded, Idled};
 
@@ -17,16 +18,16 @@ const CONSTANT: Row = Row {
 // The idle steps, which give no word, are one for each row of the register and two more.
 const IDLE_MORE: usize = 2;
 
-// The rows of the IV, the key, the IV and the key. (By index: of a `zip` over `iter_mut` a loop knows only how many.)
-fn rows_given(key: &Rows, iv: &Rows) -> [Row; MOST_ROWS]
-    ensures { result ≡ rows_given key.now iv.now }
+// Writes the rows of the IV, the key, the IV and the key over zeros, which are lent: an array that is answered would be
+// copied twice. (By index: of a `zip` over `iter_mut` a loop knows only how many.)
+fn write_rows(rows: &mut [Row], key: &Rows, iv: &Rows)
+    requires { rows.old ≡ replicate 64 zeros }
+    ensures { rows.new ≡ rows_given key.now iv.now }
 {
     let (iv, key) = (iv.chunks(), key.chunks());
-    let mut rows = [Row::default(); MOST_ROWS];
     for (i, bytes) in iv.iter().chain(key).chain(iv).chain(key).enumerate() {
         rows[i] = Row::from_bytes(*bytes);
     }
-    rows
 }
 
 impl Register {
@@ -51,7 +52,8 @@ impl Register {
         let v = iv.chunks().len();
         let k = key.chunks().len();
         let height = 2 * (v + k);
-        let mut rows = rows_given(key, iv);
+        let mut rows = [Row::default(); MOST_ROWS];
+        write_rows(&mut rows, key, iv);
         let last = height - 1;
         rows[last] = rows[last].wrapping_add(CONSTANT);
         Register {

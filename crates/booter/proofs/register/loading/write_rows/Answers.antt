@@ -1,13 +1,12 @@
-use Rattle.std.proofs.Common.{◌≡◌, ◌<◌, length, sym, ap, ◌∙◌, replicate, set, [], ◌∷◌, length-append, arith}
+use Rattle.std.proofs.Common.{◌≡◌, ◌<◌, length, sym, ap, ◌∙◌, set, [], ◌∷◌, length-append, arith}
 use Rattle.std.proofs.lemmas.Iterator.{YieldsList-from_slice}
 use Rattle.std.proofs.lemmas.Iterator.Consumers.{YieldsList-from_enumerate, YieldsList-at}
+use Rattle.std.proofs.lemmas.List.{length-replicate}
+use Rattle.row.specs.Rows.{zeros}
 use Rattle.booter.specs.Loading.{chunks, filled, twice, height}
 use Rattle.booter.proofs.Halves.{chained, halves_turn, halves_end}
-use Rattle.booter.proofs.Loads.{is_zeros, filled_more}
-use Rattle.booter.proofs.register.loading.rows_given.Goals as goal
-
-pub loop-i-init : goal.loop-i-init
-loop-i-init c = ap (replicate 64) (is_zeros c.default-rows.result c.default-rows.ensures)
+use Rattle.booter.proofs.Loads.{filled_more}
+use Rattle.booter.proofs.register.loading.write_rows.Goals as goal
 
 -- the rows come from the IV, the key, the IV and the key
 turn : (c : goal.After-from_bytes) → (c.in-Some.i ≡ length c.loop-i.yielded)
@@ -29,7 +28,10 @@ turn c =
     (t.0, t.1, c.from_bytes.ensures ∙ t.2)
 
 pub bounds-rows-i : goal.bounds-rows-i
-bounds-rows-i c = let t = turn c in omega (arith, t, c.chunks-iv.ensures.few, c.chunks-key.ensures.few)
+bounds-rows-i c =
+    let t = turn c in
+    let long : length c.args.rows.now ≡ 64 = ap length c.requires ∙ length-replicate 64 zeros in
+    omega (arith, t, c.chunks-iv.ensures.few, c.chunks-key.ensures.few, c.loop-i.auto.rows, long)
 
 pub loop-i-preserved : goal.loop-i-preserved
 loop-i-preserved c =
