@@ -20,5 +20,5 @@ impl Tool for KeystreamTool {
 }
 
 fn main(rt: HostRuntime) -> io::Result<()> {
-    answer_each::<LONGEST, KeystreamTool, _, _>(rt.alloc(), rt.reader(), &mut io::writer(&rt))
+    answer_each::<LONGEST, KeystreamTool, _, _>(rt.alloc(), rt.stdin(), &mut io::writer(&rt))
 }

@@ -45,6 +45,7 @@ pub fn answer_each<const MOST: usize, T: Tool, R: Read + Drop, W: Write>(
     for b in BufReader::new(heap, input)?.bytes() {
         if let Some(line) = pending.push(b?)? {
             print_answer::<T, W>(heap, &line, output)?;
+            pending.reuse(line);
         }
     }
     if let Some(line) = pending.end() {

@@ -51,6 +51,15 @@ impl<const MOST: usize> Pending<MOST> {
         Ok(None)
     }
 
+    // Takes back a line that was answered, before the next one begins, which then need not ask for its room again.
+    pub(crate) fn reuse(&mut self, line: Vec<u8>)
+        requires { self.old ≡ [] }
+        ensures { self.new ≡ [] }
+    {
+        self.bytes = line;
+        self.bytes.clear();
+    }
+
     // The line that the end of the input ends, if one has begun.
     pub fn end(self) -> Option<Vec<u8>>
         ensures { MatchOption result (kept_of MOST self.entry ≡ []) (λ line. kept_of MOST self.entry ≡ line.items ∷ []) }

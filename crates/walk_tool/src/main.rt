@@ -24,5 +24,5 @@ impl Tool for WalkTool {
 }
 
 fn main(rt: HostRuntime) -> io::Result<()> {
-    answer_each::<LONGEST, WalkTool, _, _>(rt.alloc(), rt.reader(), &mut io::writer(&rt))
+    answer_each::<LONGEST, WalkTool, _, _>(rt.alloc(), rt.stdin(), &mut io::writer(&rt))
 }
