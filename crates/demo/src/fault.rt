@@ -1,10 +1,10 @@
 use refusal::Refusal;
 use std::alloc::{AllocError, AllocFailed};
-use std::io;
+use std::{fmt, io};
 
 // Why the demo stops before its end. (The conversions are written out: for `thiserror`, `Refusal` would have to be an
 // `Error`.)
-#[derive(Debug, Drop)]
+#[derive(Drop)]
 pub enum Fault {
     Refused(Refusal),
     NoMemory(AllocError),
@@ -26,6 +26,17 @@ impl From<AllocError> for Fault {
 impl From<io::Error> for Fault {
     fn from(e: io::Error) -> Fault {
         Fault::Io(e)
+    }
+}
+
+// As `main` prints the error that it returns. (Written out, since of want of memory the name alone is printed.)
+impl fmt::Debug for Fault {
+    fn fmt<W: fmt::Write>(&self, f: &mut fmt::Formatter<W>) -> fmt::Result {
+        match self {
+            Fault::Refused(refusal) => f.debug_tuple("Refused").field(refusal).finish(),
+            Fault::NoMemory(_) => f.write_str("NoMemory"),
+            Fault::Io(e) => f.debug_tuple("Io").field(e).finish(),
+        }
     }
 }
 
